@@ -1,0 +1,3 @@
+-- What the crate's contracts cite, and the table of examples.
+pub mod Answers
+pub mod Examples

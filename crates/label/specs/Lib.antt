@@ -1,0 +1,2 @@
+-- What the crate's contracts cite: labels.
+pub mod Labels

@@ -1,0 +1,56 @@
+-- The ways through `read`, each as a law of `frameOf`.
+use mathlib.Core.Path.{_≡_, refl, sym, ap, _∙_, subst}
+use mathlib.Core.List.{List}
+use Prim.Native.Nat.{ℕ, _≤_, _<_}
+use native.Mathlib.Omega.{arith}
+use lib.ListN.{length}
+use borrow.Author.Tests.{eq-eqb, ne-eqb, le-leb, lt-leb}
+use Rattle.request.specs.Bytes.{_#_}
+use Rattle.request.specs.Kinds.{Sought, at, none, rows, find, lengthAt, bodyLength}
+use Rattle.request.specs.Reading.{requestAt, requestOf, frameAt, frameOf}
+use Rattle.request.specs.declared.Frame.{Frame}
+use Rattle.request.specs.declared.Frame.the-variants.{Whole, Unknown, Cut}
+use Rattle.request.specs.declared.Request.{Request}
+use Rattle.request.proofs.Rows.{NoneOf, kinds, not-a-kind, unknown-kind}
+
+pub empty : (b : List ℕ) → length b ≡ 0 → Cut ≡ frameOf b
+unfolding frameOf
+empty b e = rw (eq-eqb (length b) 0 e)
+
+-- a first byte there is: the row of that kind decides
+pub by-row : (b : List ℕ) → (length b ≡ 0 → ⊥) → (s : Sought) → find rows (b # 0) ≡ s → frameOf b ≡ frameAt s b
+unfolding frameOf
+by-row b ne s e = rw (ne-eqb (length b) 0 ne, e)
+
+pub whole-at : (s : Sought) (b : List ℕ) → (lengthAt s ≡ 255 → ⊥) → lengthAt s < length b → frameAt s b ≡ Whole (requestAt s b)
+whole-at (at r) b known l = rw (lt-leb (length b) (r .length) l)
+whole-at none b known l = absurd (known refl)
+
+cut-at : (s : Sought) (b : List ℕ) → (lengthAt s ≡ 255 → ⊥) → length b ≤ lengthAt s → frameAt s b ≡ Cut
+cut-at (at r) b known l = rw (le-leb (length b) (r .length) l)
+cut-at none b known l = absurd (known refl)
+
+-- the code's kind x, and n, the length of its body
+module _ (b : List ℕ) (ne : length b ≡ 0 → ⊥) (x n : ℕ) (is-kind : x ≡ b # 0) (is-length : n ≡ bodyLength x) where
+  length-is : lengthAt (find rows (b # 0)) ≡ n
+  unfolding bodyLength
+  length-is = sym (is-length ∙ ap (λ (k : ℕ). lengthAt (find rows k)) is-kind)
+
+  pub unknown : n ≡ 255 → Unknown ≡ frameOf b
+  unknown e = sym (by-row b ne none (unknown-kind (b # 0) rows tt (length-is ∙ e)))
+
+  pub other : NoneOf kinds x → Unknown ≡ frameOf b
+  other h = sym (by-row b ne none (ap (find rows) (sym is-kind) ∙ not-a-kind x h))
+
+  module _ (known : n ≡ 255 → ⊥) where
+    pub cut : length b ≤ n → Cut ≡ frameOf b
+    cut l =
+        sym (by-row b ne (find rows (b # 0)) refl
+        ∙ cut-at (find rows (b # 0)) b (λ e. known (sym length-is ∙ e)) (subst (λ (m : ℕ). length b ≤ m) (sym length-is) l))
+
+    -- the arm of the kind k
+    pub whole : (k : ℕ) → x ≡ k → n < length b → (q : Request) → q ≡ requestOf k b → Whole q ≡ frameOf b
+    whole k e l q is =
+        ap Whole (is ∙ ap (λ (j : ℕ). requestOf j b) (sym e ∙ is-kind))
+        ∙ sym (by-row b ne (find rows (b # 0)) refl
+        ∙ whole-at (find rows (b # 0)) b (λ e. known (sym length-is ∙ e)) (subst (λ (m : ℕ). m < length b) (sym length-is) l))
