@@ -5,14 +5,14 @@ use mathlib.Core.List.{List, [], _∷_, _++_, append-assoc}
 use Prim.Native.Nat.{ℕ, suc, _+_, _/_, _%_, _≤_, _<_}
 use native.Mathlib.Omega.{arith}
 use native.Mathlib.Numerals.{add-one}
-use lib.ListN.{length, getD, drop}
+use lib.ListN.{length, getD, drop, replicate}
 use lib.Dec.{eqb, leb}
 use lib.Seq.{drop-cons}
 use borrow.Author.Tests.{leb-false}
 use Rattle.request.specs.Bytes.{_#_, pair, pairAt, quad, quadAt, pairBytes, quadBytes}
 use Rattle.request.specs.Kinds.{Body, one, two, four, make, Row, Sought, at, none, rows, find, lengthAt, bodyLength}
 use Rattle.request.specs.Reading.{fieldsFrom, requestOf, frameAt, frameOf}
-use Rattle.request.specs.Writing.{written}
+use Rattle.request.specs.Writing.{written, framed}
 use Rattle.request.specs.declared.Frame.{Frame}
 use Rattle.request.specs.declared.Frame.the-variants.{Whole, Unknown, Cut}
 use Rattle.request.specs.declared.Request.{Request}
@@ -149,7 +149,7 @@ module _ (b : List ℕ) (bytes : (i : ℕ) → b # i < 256) where
 pair-forth : (c : ℕ) → pair (c / 256) (c % 256) ≡ c
 pair-forth c = omega arith
 
-quad-forth : (v : ℕ) → quad (v / 16777216) (v / 65536 % 256) (v / 256 % 256) (v % 256) ≡ v
+pub quad-forth : (v : ℕ) → quad (v / 16777216) (v / 65536 % 256) (v / 256 % 256) (v % 256) ≡ v
 quad-forth v = omega arith
 
 spelt : (b : List ℕ) (kind : ℕ) → b # 0 ≡ kind → (length b ≡ 0 → ⊥) → (lengthAt (find rows kind) ≡ 255 → ⊥) → lengthAt (find rows kind) < length b
@@ -206,3 +206,46 @@ written-is-read (Kill u s) rest =
     spelt (written (Kill u s) ++ rest) 0x16 refl (λ e. omega arith) (λ e. omega arith) (omega arith)
 written-is-read (TakeBack u) rest =
     spelt (written (TakeBack u) ++ rest) 0x20 refl (λ e. omega arith) (λ e. omega arith) (omega arith)
+
+-- ---- a request in nine bytes is read as that request: zeros follow what is written out
+pub framed-is-read : (q : Request) → frameOf (framed q) ≡ Whole q
+framed-is-read (Enrol u new sort level c admin) = written-is-read (Enrol u new sort level c admin) (replicate 1 0)
+framed-is-read (Establish u room) = written-is-read (Establish u room) (replicate 6 0)
+framed-is-read (JoinStaff u w room) = written-is-read (JoinStaff u w room) (replicate 5 0)
+framed-is-read (LeaveStaff u w room) = written-is-read (LeaveStaff u w room) (replicate 5 0)
+framed-is-read (JoinOutsider u w room level c) = written-is-read (JoinOutsider u w room level c) (replicate 2 0)
+framed-is-read (LeaveOutsider u w room) = written-is-read (LeaveOutsider u w room) (replicate 5 0)
+framed-is-read (Add u script v room) = written-is-read (Add u script v room) (replicate 1 0)
+framed-is-read (Remove u script v room) = written-is-read (Remove u script v room) (replicate 1 0)
+framed-is-read (Import u script1 v script2 room) = written-is-read (Import u script1 v script2 room) (replicate 0 0)
+framed-is-read (Merge u script v room) = written-is-read (Merge u script v room) (replicate 1 0)
+framed-is-read (Disband u room) = written-is-read (Disband u room) (replicate 6 0)
+framed-is-read (OpenInRoom u s room level c) = written-is-read (OpenInRoom u s room level c) (replicate 2 0)
+framed-is-read (OpenInHouse u s level c) = written-is-read (OpenInHouse u s level c) (replicate 3 0)
+framed-is-read (OpenReadOnly u s level c) = written-is-read (OpenReadOnly u s level c) (replicate 3 0)
+framed-is-read (Read s script v) = written-is-read (Read s script v) (replicate 2 0)
+framed-is-read (Update s script v) = written-is-read (Update s script v) (replicate 2 0)
+framed-is-read (Create s script) = written-is-read (Create s script) (replicate 6 0)
+framed-is-read (Kill u s) = written-is-read (Kill u s) (replicate 6 0)
+framed-is-read (TakeBack u) = written-is-read (TakeBack u) (replicate 7 0)
+
+pub framed-length : (q : Request) → length (framed q) ≡ 9
+framed-length (Enrol u new sort level c admin) = refl
+framed-length (Establish u room) = refl
+framed-length (JoinStaff u w room) = refl
+framed-length (LeaveStaff u w room) = refl
+framed-length (JoinOutsider u w room level c) = refl
+framed-length (LeaveOutsider u w room) = refl
+framed-length (Add u script v room) = refl
+framed-length (Remove u script v room) = refl
+framed-length (Import u script1 v script2 room) = refl
+framed-length (Merge u script v room) = refl
+framed-length (Disband u room) = refl
+framed-length (OpenInRoom u s room level c) = refl
+framed-length (OpenInHouse u s level c) = refl
+framed-length (OpenReadOnly u s level c) = refl
+framed-length (Read s script v) = refl
+framed-length (Update s script v) = refl
+framed-length (Create s script) = refl
+framed-length (Kill u s) = refl
+framed-length (TakeBack u) = refl

@@ -1,7 +1,9 @@
 -- A request written out by 01's table: its kind, then its fields.
-use Prim.Native.Nat.{ℕ, _<_}
-use mathlib.Core.List.{List, [], _∷_}
+use Prim.Native.Nat.{ℕ, _/_, _%_}
+use mathlib.Core.List.{List, [], _∷_, _++_}
+use lib.ListN.{take, replicate}
 use Rattle.request.specs.Bytes.{pairBytes, quadBytes}
+use Rattle.request.specs.declared.Quad.{Quad}
 use Rattle.request.specs.declared.Request.{Request}
 use Rattle.request.specs.declared.Request.the-variants.{Enrol, Establish, JoinStaff, LeaveStaff, JoinOutsider, LeaveOutsider, Add, Remove, Import, Merge, Disband, OpenInRoom, OpenInHouse, OpenReadOnly, Read, Update, Create, Kill, TakeBack}
 
@@ -25,3 +27,11 @@ written (Update s script v) = 0x14 ∷ s ∷ script ∷ quadBytes v []
 written (Create s script) = 0x15 ∷ s ∷ script ∷ []
 written (Kill u s) = 0x16 ∷ u ∷ s ∷ []
 written (TakeBack u) = 0x20 ∷ u ∷ []
+
+-- the same in nine bytes, the longest frame: zeros follow
+abbrev pub framed : Request → List ℕ
+framed q = take 9 (written q ++ replicate 9 0)
+
+-- the bytes of a number, the most significant first
+abbrev pub quadOf : ℕ → Quad
+quadOf n = record { a = n / 16777216; b = n / 65536 % 256; c = n / 256 % 256; d = n % 256 }

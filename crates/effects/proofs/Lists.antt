@@ -1,0 +1,114 @@
+-- What each shape of loop has done to a list after i turns: a map in place, a filter by moving up, a search.
+use Prim.Native.Nat.{ℕ, suc, _+_, _≤_, _<_}
+use mathlib.Core.Path.{_≡_, refl, sym, ap, _∙_}
+use mathlib.Core.Bool.{Bool, true, false, cond, _||_}
+use mathlib.Core.List.{List, [], _∷_, _++_, map, append-assoc, append-nil}
+use native.Mathlib.Numerals.{add-one}
+use native.Mathlib.Nat.{add-zero, zero-add, add-suc, suc-add}
+use native.Mathlib.Omega.{arith}
+use lib.ListN.{length, take, drop, getD, set, length-set, drop-of-length-le}
+use lib.Seq.{take-suc, drop-cons, set-at, getD-at, length-take-le, take-all, take-suc-set, drop-set-lt, getD-drop, drop-drop}
+use Rattle.records.specs.Lists.{any, keep, mapFrom}
+
+-- ---- a map in place: the first i elements are done
+module _ {A : Type 0} (f : ℕ → A → A) where
+  length-mapFrom : (n : ℕ) (l : List A) → length (mapFrom n f l) ≡ length l
+  length-mapFrom n [] = refl
+  length-mapFrom n (x ∷ xs) = ap suc (length-mapFrom (suc n) xs)
+
+  mapFrom-append : (n : ℕ) (xs ys : List A) → mapFrom n f (xs ++ ys) ≡ mapFrom n f xs ++ mapFrom (n + length xs) f ys
+  mapFrom-append n [] ys = rw add-zero
+  mapFrom-append n (x ∷ xs) ys = rw (mapFrom-append (suc n) xs ys, add-suc, suc-add)
+
+  abbrev pub done : ℕ → List A → List A
+  done i l = mapFrom 0 f (take i l) ++ drop i l
+
+  module _ (i : ℕ) (l : List A) (d : A) (h : i < length l) where
+    front : length (mapFrom 0 f (take i l)) ≡ i
+    front = length-mapFrom 0 (take i l) ∙ length-take-le i l (omega arith)
+
+    opened : done i l ≡ mapFrom 0 f (take i l) ++ (getD l i d ∷ drop (suc i) l)
+    opened = ap (λ (r : List A). mapFrom 0 f (take i l) ++ r) (drop-cons l i d h)
+
+    -- the next element is as it was
+    pub done-next : getD (done i l) i d ≡ getD l i d
+    done-next = rw opened (getD-at (mapFrom 0 f (take i l)) (getD l i d) (drop (suc i) l) d i front)
+
+    pub done-more : set (done i l) i (f i (getD l i d)) ≡ done (i + 1) l
+    done-more =
+        rw (
+          opened,
+          set-at (mapFrom 0 f (take i l)) (getD l i d) (drop (suc i) l) (f i (getD l i d)) i front,
+          add-one,
+          take-suc l i d h,
+          mapFrom-append 0 (take i l) (getD l i d ∷ []),
+          append-assoc,
+          zero-add,
+          length-take-le i l (omega arith),
+        )
+
+  pub done-all : (i : ℕ) (l : List A) → length l ≤ i → done i l ≡ mapFrom 0 f l
+  done-all i l h = rw (take-all i l h, drop-of-length-le l h, append-nil)
+
+pub mapFrom-map : {A : Type 0} (g : A → A) (n : ℕ) (l : List A) → mapFrom n (λ _. g) l ≡ map g l
+mapFrom-map g n [] = refl
+mapFrom-map g n (x ∷ xs) = rw (mapFrom-map g (suc n) xs)
+
+-- ---- a filter by moving up: i elements of l were passed, and those of which p holds stand in the first n places of a
+pub record MovedUp {A : Type 0} (p : A → Bool) (l : List A) (i n : ℕ) (a : List A) : Type 0 where
+  pub behind : n ≤ i
+  pub size : length a ≡ length l
+  pub front : take n a ≡ keep p (take i l)
+  pub rest : drop i a ≡ drop i l
+
+module _ {A : Type 0} (p : A → Bool) where
+  keep-append : (xs ys : List A) → keep p (xs ++ ys) ≡ keep p xs ++ keep p ys
+  keep-append [] ys = refl
+  keep-append (x ∷ xs) ys = rw (keep-append xs ys, either (p x))
+    where
+      either : (b : Bool) → cond b (x ∷ (keep p xs ++ keep p ys)) (keep p xs ++ keep p ys) ≡ cond b (x ∷ keep p xs) (keep p xs) ++ keep p ys
+      either true = refl
+      either false = refl
+
+  module _ (l : List A) where
+    pub none-moved : MovedUp p l 0 0 l
+    none-moved = record { behind = omega arith; size = refl; front = refl; rest = refl }
+
+    module _ (i n : ℕ) (a : List A) (d : A) (m : MovedUp p l i n a) where
+      -- the next element is as it was
+      pub moved-next : getD a i d ≡ getD l i d
+      moved-next = ap (λ (k : ℕ). getD a k d) (sym (add-zero i)) ∙ sym (getD-drop i a 0 d) ∙ rw (m .rest, getD-drop i l 0 d, add-zero)
+
+      module _ (h : i < length l) where
+        passed : keep p (take (suc i) l) ≡ take n a ++ keep p (getD a i d ∷ [])
+        passed = rw (take-suc l i d h, keep-append (take i l) (getD l i d ∷ []), m .front, moved-next)
+
+        later : drop (suc i) a ≡ drop (suc i) l
+        later = rw (← add-one i, ← drop-drop 1 i a, ← drop-drop 1 i l, m .rest)
+
+        pub moved-kept : p (getD a i d) ≡ true → MovedUp p l (i + 1) (n + 1) (set a n (getD a i d))
+        moved-kept t = record {
+          behind = omega (arith, m .behind);
+          size = length-set a n (getD a i d) ∙ m .size;
+          front = rw (add-one i, add-one n, take-suc-set a n (getD a i d) (omega (arith, m .behind, m .size)), passed, t);
+          rest = rw (add-one i, drop-set-lt (suc i) a n (getD a i d) (omega (arith, m .behind)), later);
+        }
+
+        pub moved-cut : p (getD a i d) ≡ false → MovedUp p l (i + 1) n a
+        moved-cut t = record {
+          behind = omega (arith, m .behind);
+          size = m .size;
+          front = rw (add-one i, passed, t, append-nil);
+          rest = rw (add-one i, later);
+        }
+
+    pub moved-all : (i n : ℕ) (a : List A) → MovedUp p l i n a → length l ≤ i → take n a ≡ keep p l
+    moved-all i n a m h = m .front ∙ rw (take-all i l h)
+
+-- ---- a search: what is left to look through from place i on
+module _ {A : Type 0} (p : A → Bool) (l : List A) (i : ℕ) where
+  pub any-more : (d : A) → i < length l → any p (drop i l) ≡ (p (getD l i d) || any p (drop (i + 1) l))
+  any-more d h = rw (drop-cons l i d h, add-one)
+
+  pub any-none : length l ≤ i → any p (drop i l) ≡ false
+  any-none h = rw (drop-of-length-le l h)

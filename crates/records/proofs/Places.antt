@@ -1,0 +1,215 @@
+-- Sets of places: which places a set has, and what one place more, one place less and a set within another are by that.
+use Prim.Native.Nat.{ℕ, zero, suc, _+_, _-_, _*_, _/_, _%_, _^_, _≤_, _<_, min, max}
+use mathlib.Core.Path.{_≡_, refl, sym, ap, _∙_}
+use mathlib.Core.Logic.{_⊎_, inl, inr}
+use mathlib.Core.Bool.{Bool, true, false, cond, not, _&&_, _||_, or-false, or-comm}
+use native.Mathlib.Omega.{arith}
+use native.Mathlib.Nat.{pow-suc, pow-succ', div-one, div-div-eq-div-mul, mul-mod-left, div-eq-of-lt, div-self, mul-div-cancel-left, add-comm, zero-div, two-pow-succ, zero-mul, one-mul, mod-eq-of-lt, lt-of-lt-of-le}
+use native.Mathlib.Numerals.{add-one}
+use native.Mathlib.Decide.{ℕ-discrete, decLe}
+use lib.Dec.{eqb, ltb}
+use lib.Pow.{pow-pos, pow-lt, pow-mono, pow-add}
+use lib.Bits.{bitAnd, bitOr, and-step, or-step, and-le-l, or-shr, and-shr, and-self, and-high, or-lt}
+use borrow.Author.Tests.{eqb-true, eqb-false, eq-eqb, ne-eqb, lt-ltb, le-ltb}
+use Rattle.records.specs.Places.{has, with, without, only, within}
+
+-- ---- bit q of a number
+abbrev bit : ℕ → ℕ → ℕ
+bit n q = n / 2 ^ q % 2
+
+or-bit : (a b q : ℕ) → bit (bitOr a b) q ≡ max (bit a q) (bit b q)
+or-bit a b q = rw or-shr (omega (arith, or-step (a / 2 ^ q) (b / 2 ^ q)))
+
+and-bit : (a b q : ℕ) → bit (bitAnd a b) q ≡ min (bit a q) (bit b q)
+and-bit a b q = rw and-shr (omega (arith, and-step (a / 2 ^ q) (b / 2 ^ q)))
+
+less-shr : (q a b : ℕ) → (a - bitAnd a b) / 2 ^ q ≡ a / 2 ^ q - bitAnd (a / 2 ^ q) (b / 2 ^ q)
+less-shr zero a b = simp div-one
+less-shr (suc q) a b =
+    let e : (a - bitAnd a b) / 2 ≡ a / 2 - bitAnd (a / 2) (b / 2) = omega (arith, and-step a b, and-le-l (a / 2) (b / 2)) in
+    rw (pow-succ' 2 q, ← div-div-eq-div-mul (a - bitAnd a b) 2 (2 ^ q), ← div-div-eq-div-mul a 2 (2 ^ q), ← div-div-eq-div-mul b 2 (2 ^ q), e) (less-shr q (a / 2) (b / 2))
+
+less-bit : (a b q : ℕ) → bit (a - bitAnd a b) q ≡ bit a q - min (bit a q) (bit b q)
+less-bit a b q = rw less-shr (omega (arith, and-step (a / 2 ^ q) (b / 2 ^ q), and-le-l (a / 2 ^ q / 2) (b / 2 ^ q / 2)))
+
+-- a power has its own bit and no other
+power-above : (q k : ℕ) → bit (2 ^ (q + suc k)) q ≡ 0
+power-above q k = rw (pow-add 2 q (suc k), mul-div-cancel-left (2 ^ suc k) (pow-pos q), pow-suc 2 k) (mul-mod-left (2 ^ k) 2)
+
+power-bit : (p q : ℕ) → bit (2 ^ p) q ≡ cond (eqb p q) 1 0
+power-bit p q = go (ℕ-discrete p q) (decLe q p)
+  where
+    go : Dec (p ≡ q) → Dec (q ≤ p) → bit (2 ^ p) q ≡ cond (eqb p q) 1 0
+    go (yes e) d = rw (e, eq-eqb q q refl, div-self (pow-pos q))
+    go (no n) (yes h) =
+        let e : p ≡ q + suc (p - suc q) = omega arith in
+        rw (ne-eqb p q n, e) (power-above q (p - suc q))
+    go (no n) (no h) = rw (ne-eqb p q n, div-eq-of-lt (pow-lt {i = p} {j = q} (omega arith)))
+
+-- ---- sets by their places
+bit-has : (s q : ℕ) → bit s q ≡ cond (has s q) 1 0
+unfolding has
+bit-has s q = go (eqb (bit s q) 1) refl
+  where
+    go : (b : Bool) → eqb (bit s q) 1 ≡ b → bit s q ≡ cond b 1 0
+    go true e = eqb-true (bit s q) 1 e
+    go false e = omega (arith, eqb-false (bit s q) 1 e)
+
+bits-same : (n a b : ℕ) → a ≤ n → b ≤ n → ((q : ℕ) → bit a q ≡ bit b q) → a ≡ b
+bits-same zero a b l m f = omega arith
+bits-same (suc n) a b l m f =
+    let h : a / 2 ≡ b / 2 = bits-same n (a / 2) (b / 2) (omega arith) (omega arith) (λ q. rw (div-div-eq-div-mul a 2 (2 ^ q), div-div-eq-div-mul b 2 (2 ^ q), ← pow-succ' 2 q) (f (suc q))) in
+    omega (arith, f 0)
+
+-- sets with the same places are the same
+pub has-same : (s t : ℕ) → ((q : ℕ) → has s q ≡ has t q) → s ≡ t
+has-same s t f = bits-same (s + t) s t (omega arith) (omega arith) (λ q. rw (bit-has s q, bit-has t q, f q))
+
+pub has-none : (q : ℕ) → has 0 q ≡ false
+unfolding has
+has-none q = rw (zero-div (2 ^ q))
+
+-- no place over 31 is in a set of 32 bits
+pub has-over : (s q : ℕ) → s < 2 ^ 32 → 31 < q → has s q ≡ false
+unfolding has
+has-over s q h l = rw (div-eq-of-lt (lt-of-lt-of-le h (pow-mono {i = 32} {j = q} l)))
+
+-- a place is in a set as its bit says
+has-by : (s q : ℕ) (b : Bool) → bit s q ≡ cond b 1 0 → has s q ≡ b
+unfolding has
+has-by s q b e = rw e (go b)
+  where
+    go : (b : Bool) → eqb (cond b 1 0) 1 ≡ b
+    go true = refl
+    go false = refl
+
+power-has : (p q : ℕ) → has (2 ^ p) q ≡ eqb p q
+power-has p q = has-by (2 ^ p) q (eqb p q) (power-bit p q)
+
+-- the places of one of two sets, of both, and of the first alone
+module _ (s t q : ℕ) where
+  pub has-or : has (bitOr s t) q ≡ (has s q || has t q)
+  has-or = has-by (bitOr s t) q (has s q || has t q) (or-bit s t q ∙ rw (bit-has s q, bit-has t q) (go (has s q) (has t q)))
+    where
+      go : (a b : Bool) → max (cond a 1 0) (cond b 1 0) ≡ cond (a || b) 1 0
+      go true true = refl
+      go true false = refl
+      go false true = refl
+      go false false = refl
+
+  pub has-and : has (bitAnd s t) q ≡ (has s q && has t q)
+  has-and = has-by (bitAnd s t) q (has s q && has t q) (and-bit s t q ∙ rw (bit-has s q, bit-has t q) (go (has s q) (has t q)))
+    where
+      go : (a b : Bool) → min (cond a 1 0) (cond b 1 0) ≡ cond (a && b) 1 0
+      go true true = refl
+      go true false = refl
+      go false true = refl
+      go false false = refl
+
+  pub has-less : has (s - bitAnd s t) q ≡ (has s q && not (has t q))
+  has-less = has-by (s - bitAnd s t) q (has s q && not (has t q)) (less-bit s t q ∙ rw (bit-has s q, bit-has t q) (go (has s q) (has t q)))
+    where
+      go : (a b : Bool) → cond a 1 0 - min (cond a 1 0) (cond b 1 0) ≡ cond (a && not b) 1 0
+      go true true = refl
+      go true false = refl
+      go false true = refl
+      go false false = refl
+
+-- one shifted by a place, in 32 bits
+pub shifted : (p : ℕ) → p ≤ 31 → 1 * 2 ^ p % 2 ^ 32 ≡ 2 ^ p
+shifted p h = rw (one-mul (2 ^ p), mod-eq-of-lt (pow-lt {i = p} {j = 32} (omega arith)))
+
+-- ---- one place more, one place less
+module _ (s p : ℕ) where
+  pub with-in : p ≤ 31 → with s p ≡ bitOr s (2 ^ p)
+  unfolding with
+  with-in h = rw (le-ltb 31 p h)
+
+  pub without-in : p ≤ 31 → without s p ≡ s - bitAnd s (2 ^ p)
+  unfolding without
+  without-in h = rw (le-ltb 31 p h)
+
+  pub with-over : 31 < p → with s p ≡ s
+  unfolding with
+  with-over h = rw (lt-ltb 31 p h)
+
+  pub without-over : 31 < p → without s p ≡ s
+  unfolding without
+  without-over h = rw (lt-ltb 31 p h)
+
+  pub has-with : p ≤ 31 → (q : ℕ) → has (with s p) q ≡ (eqb p q || has s q)
+  has-with h q = rw (with-in h, has-or s (2 ^ p) q, power-has p q) (or-comm (has s q) (eqb p q))
+
+  pub has-without : p ≤ 31 → (q : ℕ) → has (without s p) q ≡ (has s q && not (eqb p q))
+  has-without h q = rw (without-in h, has-less s (2 ^ p) q, power-has p q)
+
+  -- sets of 32 bits stay such
+  pub with-fits : s < 2 ^ 32 → with s p < 2 ^ 32
+  with-fits f = go (decLe p 31)
+    where
+      go : Dec (p ≤ 31) → with s p < 2 ^ 32
+      go (yes h) = rw (with-in h) (or-lt 32 s (2 ^ p) f (pow-lt {i = p} {j = 32} (omega arith)))
+      go (no h) = rw (with-over (omega arith)) f
+
+  pub without-fits : s < 2 ^ 32 → without s p < 2 ^ 32
+  without-fits f = go (decLe p 31)
+    where
+      go : Dec (p ≤ 31) → without s p < 2 ^ 32
+      go (yes h) = rw (without-in h) (omega arith)
+      go (no h) = rw (without-over (omega arith)) f
+
+pub has-only : (p : ℕ) → p ≤ 31 → (q : ℕ) → has (only p) q ≡ eqb p q
+has-only p h q = has-with 0 p h q ∙ rw (has-none q) (or-false (eqb p q))
+
+-- ---- a set that one place less leaves empty: it was empty, or had that place only
+and-power : (s p : ℕ) → bitAnd s (2 ^ p) ≡ bit s p * 2 ^ p
+and-power s p =
+    let e : 2 ^ (1 + p) - 2 ^ p ≡ 2 ^ p = rw (add-comm 1 p, add-one p) (omega (arith, two-pow-succ p)) in
+    ap (bitAnd s) (sym e) ∙ and-high s 1 p
+
+pub without-zero : (p : ℕ) → without 0 p ≡ 0
+unfolding without
+without-zero p = go (ltb 31 p)
+  where
+    go : (b : Bool) → cond b 0 (0 - bitAnd 0 (2 ^ p)) ≡ 0
+    go true = refl
+    go false = omega arith
+
+pub without-only : (p : ℕ) → without (only p) p ≡ 0
+unfolding without with
+without-only p = go (ltb 31 p)
+  where
+    go : (b : Bool) → cond b (cond b 0 (2 ^ p)) (cond b 0 (2 ^ p) - bitAnd (cond b 0 (2 ^ p)) (2 ^ p)) ≡ 0
+    go true = refl
+    go false = omega (arith, and-self (2 ^ p))
+
+pub without-none : (s p : ℕ) → without s p ≡ 0 → (s ≡ 0) ⊎ (s ≡ only p)
+unfolding without with has
+without-none s p = go (ltb 31 p)
+  where
+    go : (b : Bool) → cond b s (s - bitAnd s (2 ^ p)) ≡ 0 → (s ≡ 0) ⊎ (s ≡ cond b 0 (2 ^ p))
+    go true e = inl e
+    go false e = one (has s p) (omega (arith, and-power s p, and-le-l s (2 ^ p))) (bit-has s p)
+      where
+        one : (b : Bool) → s ≡ bit s p * 2 ^ p → bit s p ≡ cond b 1 0 → (s ≡ 0) ⊎ (s ≡ 2 ^ p)
+        one true h k = inr (h ∙ rw k (one-mul (2 ^ p)))
+        one false h k = inl (h ∙ rw k (zero-mul (2 ^ p)))
+
+-- ---- a set within another
+module _ (s t : ℕ) where
+  pub within-has : within s t ≡ true → (q : ℕ) → has s q ≡ true → has t q ≡ true
+  unfolding within
+  within-has w q = go (has t q) (has s q) (sym (has-and t s q) ∙ ap (λ (x : ℕ). has x q) (eqb-true (bitAnd t s) s w))
+    where
+      go : (a b : Bool) → (a && b) ≡ b → b ≡ true → a ≡ true
+      go true b e h = refl
+      go false b e h = e ∙ h
+
+  pub has-within : ((q : ℕ) → has s q ≡ true → has t q ≡ true) → within s t ≡ true
+  unfolding within
+  has-within f = eq-eqb (bitAnd t s) s (has-same (bitAnd t s) s (λ q. has-and t s q ∙ go (has t q) (has s q) (f q)))
+    where
+      go : (a b : Bool) → (b ≡ true → a ≡ true) → (a && b) ≡ b
+      go true b f = refl
+      go false false f = refl
+      go false true f = f refl

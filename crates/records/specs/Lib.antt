@@ -1,0 +1,6 @@
+pub mod Tables
+pub mod Lists
+pub mod Places
+pub mod House
+pub mod Lookups
+pub mod Rules

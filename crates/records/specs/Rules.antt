@@ -1,0 +1,132 @@
+-- The record rules of 01, "Every desk reached from an opening meets these record rules": a test for each clause, which code can make too.
+use Prim.Native.Nat.{ℕ}
+use mathlib.Core.Bool.{Bool, true, not, _&&_, _||_}
+use mathlib.Core.List.{List, [], _∷_}
+use lib.Dec.{eqb, leb, ltb}
+use lib.ListN.{length}
+use Rattle.records.specs.Lists.{any, all, allFrom, count}
+use Rattle.records.specs.Places.{has, with, only, within}
+use Rattle.records.specs.House.{House, house, noPlace, staff, outsider, user, script}
+use Rattle.records.specs.Lookups.{ofScript, placed}
+use Rattle.records.specs.declared.User.{User}
+use Rattle.records.specs.declared.Script.{Script}
+use Rattle.records.specs.declared.Session.{Session}
+use Rattle.records.specs.declared.Draft.{Draft}
+
+infixr 40 _implies_
+abbrev pub _implies_ : Bool → Bool → Bool
+a implies b = not a || b
+
+-- "Rooms 1..16."
+abbrev pub roomNumbers : List ℕ
+roomNumbers = 1 ∷ 2 ∷ 3 ∷ 4 ∷ 5 ∷ 6 ∷ 7 ∷ 8 ∷ 9 ∷ 10 ∷ 11 ∷ 12 ∷ 13 ∷ 14 ∷ 15 ∷ 16 ∷ []
+
+-- the house, or a room that exists
+abbrev pub isPlace : House → ℕ → Bool
+isPlace h p = eqb p house || has (h .rooms) p
+
+-- the house and all rooms that exist
+abbrev pub places : House → ℕ
+places h = with (h .rooms) house
+
+-- ---- "every record named is there": rooms joined and led; the owner and the place of a session; the origin of a script; the script and the places of a draft
+abbrev pub roomsThere : House → User → Bool
+roomsThere h u = within (u .rooms) (h .rooms) && within (u .leads) (h .rooms)
+
+abbrev pub sessionThere : House → Session → Bool
+sessionThere h s = s .here implies (user h (s .owner) .here && (s .writes implies isPlace h (s .place)))
+
+abbrev pub originThere : House → Script → Bool
+originThere h s = s .here implies isPlace h (s .origin)
+
+abbrev pub draftThere : House → Draft → Bool
+draftThere h d = script h (d .script) .here && within (d .places) (places h)
+
+abbrev pub namedThere : House → Bool
+namedThere h =
+    all (roomsThere h) (h .users) && all (sessionThere h) (h .sessions) && all (originThere h) (h .scripts) && all (draftThere h) (h .drafts)
+
+-- ---- "a house administrator if there is any user"
+abbrev pub administered : House → Bool
+administered h = any (λ u. u .here) (h .users) implies any (λ u. u .here && u .admin) (h .users)
+
+-- ---- "only staff are administrators or leads"
+abbrev pub staffOnly : House → Bool
+staffOnly h = all (λ u. (u .admin || not (eqb (u .leads) 0)) implies eqb (u .sort) staff) (h .users)
+
+-- ---- "one lead for each room"
+abbrev pub oneLead : House → Bool
+oneLead h = all (λ r. has (h .rooms) r implies eqb (count (λ u. has (u .leads) r) (h .users)) 1) roomNumbers
+
+-- ---- "outsiders with zero labels, in no room"
+abbrev pub outsidersBare : House → Bool
+outsidersBare h = all (λ u. eqb (u .sort) outsider implies (eqb (u .level) 0 && eqb (u .categories) 0 && eqb (u .rooms) 0)) (h .users)
+
+-- ---- "RW sessions owned by staff (house) or by members of their room, and within the owner's label"
+abbrev pub ownedWell : User → Session → Bool
+ownedWell o s =
+    (eqb (s .place) house implies eqb (o .sort) staff)
+    && (not (eqb (s .place) house) implies has (o .rooms) (s .place))
+    && leb (s .level) (o .level)
+    && within (s .categories) (o .categories)
+
+abbrev pub sessionsOwned : House → Bool
+sessionsOwned h = all (λ s. s .writes implies ownedWell (user h (s .owner)) s) (h .sessions)
+
+-- ---- "a room script's drafts in that room only"
+abbrev pub roomDrafts : House → Bool
+roomDrafts h = all (λ d. not (eqb (script h (d .script) .origin) house) implies eqb (d .places) (only (script h (d .script) .origin))) (h .drafts)
+
+-- ---- "a house script's drafts with the house among the places, or with exactly one room"
+abbrev pub houseDrafts : House → Bool
+houseDrafts h =
+    all (λ d. eqb (script h (d .script) .origin) house implies (has (d .places) house || any (λ r. eqb (d .places) (only r)) roomNumbers)) (h .drafts)
+
+-- ---- "a draft for each script, a place for each draft"
+abbrev pub eachDrafted : House → Bool
+eachDrafted h = allFrom 0 (λ i s. s .here implies any (ofScript i) (h .drafts)) (h .scripts)
+
+abbrev pub eachPlaced : House → Bool
+eachPlaced h = all placed (h .drafts)
+
+-- ---- "draft numbers from 1 to the counter, no two alike": they stand in ascending order
+abbrev pub ascending : ℕ → ℕ → List Draft → Bool
+ascending above last [] = true
+ascending above last (d ∷ ds) = ltb above (d .number) && leb (d .number) last && ascending (d .number) last ds
+
+abbrev pub numbered : House → ℕ → Bool
+numbered h last = ascending 0 last (h .drafts)
+
+-- ---- "Records and bounds": how many there are, and how large each field may be; a slot that is not used is all zeros
+abbrev pub labelFits : ℕ → ℕ → Bool
+labelFits level c = leb level 7 && ltb c 65536
+
+abbrev pub userFits : User → Bool
+userFits u =
+    leb (u .sort) 2 && labelFits (u .level) (u .categories)
+    && (u .here || (eqb (u .sort) 0 && eqb (u .level) 0 && eqb (u .categories) 0 && eqb (u .rooms) 0 && eqb (u .leads) 0 && not (u .admin)))
+
+abbrev pub scriptFits : Script → Bool
+scriptFits s = labelFits (s .level) (s .categories) && (s .here || (eqb (s .level) 0 && eqb (s .categories) 0 && eqb (s .origin) 0))
+
+-- "for RW only, a place"
+abbrev pub sessionFits : Session → Bool
+sessionFits s =
+    labelFits (s .level) (s .categories)
+    && (s .here implies (s .writes || eqb (s .place) noPlace))
+    && (s .here || (eqb (s .owner) 0 && eqb (s .level) 0 && eqb (s .categories) 0 && not (s .writes) && eqb (s .place) 0))
+
+abbrev pub bounded : House → ℕ → Bool
+bounded h last =
+    eqb (length (h .users)) 64 && all userFits (h .users)
+    && within (h .rooms) 0x1FFFE
+    && eqb (length (h .scripts)) 64 && all scriptFits (h .scripts)
+    && eqb (length (h .sessions)) 64 && all sessionFits (h .sessions)
+    && leb (length (h .drafts)) 256
+    && leb last 4294967295
+
+-- ---- all of them, of the records h and the last draft number issued
+unfoldable pub rules : House → ℕ → Bool
+rules h last =
+    bounded h last && namedThere h && administered h && staffOnly h && oneLead h && outsidersBare h && sessionsOwned h && roomDrafts h && houseDrafts h
+    && eachDrafted h && eachPlaced h && numbered h last
