@@ -1,0 +1,43 @@
+-- What the functions' proofs cite: the oldest change, a change that is kept, the number that was issued.
+use mathlib.Core.Path.{_≡_, refl, sym, ap, _∙_}
+use mathlib.Core.Bool.{Bool, true, false, cond}
+use mathlib.Core.List.{List, [], _∷_, _++_, foldl}
+use Prim.Native.Nat.{ℕ, _+_, _<_}
+use native.Mathlib.Omega.{arith}
+use lib.Dec.{eqb, ltb}
+use lib.ListN.{length, getD, take, drop}
+use Rattle.records.specs.House.{House}
+use Rattle.effects.specs.Effects.{applied}
+use Rattle.effects.specs.declared.Change.{Change}
+use Rattle.log.specs.Log.{pushed}
+use Rattle.counter.specs.Numbers.{top, nextAfter, lastAfter}
+use Rattle.counter.specs.declared.Next.{Next}
+use Rattle.counter.specs.declared.Next.the-variants.{Number, Spent}
+use Rattle.history.specs.Machine.{Desk, keep}
+use Rattle.history.specs.Desk.{deskRules, settled}
+
+pub first-one : (h : House) (l : List Change) (d : Change) → 0 < length l → applied h (getD l 0 d) ≡ foldl applied h (take 1 l)
+first-one h [] d k = absurd (omega arith)
+first-one h (c ∷ cs) d k = refl
+
+pub number-is-last : (last n : ℕ) → nextAfter last ≡ Number n → lastAfter last ≡ n
+number-is-last last n e = by-top (eqb last top) e
+  where
+    by-top : (t : Bool) → cond t Spent (Number (last + 1)) ≡ Number n → cond t last (last + 1) ≡ n
+    by-top true e = let z : _≡_ {A = ℕ} 0 1 = cc in absurd (omega arith)
+    by-top false e = cc
+
+-- the parts after a change that is kept, put together
+module _ (b b' : House) (l l' : List Change) (h h' : House) (c : Change) (n m : ℕ) where
+  pub kept-is : b' ≡ settled b l → l' ≡ pushed l c → h' ≡ applied h c
+      → record { base = b'; log = l'; current = h'; last = n } ≡ keep deskRules (record { base = b; log = l; current = h; last = m }) c n
+  unfolding keep
+  kept-is e f g = by-room (ltb (length l) 32) e f
+    where
+      by-room : (t : Bool) → b' ≡ cond t b (foldl applied b (take 1 l)) → l' ≡ cond t (l ++ (c ∷ [])) (drop 1 l ++ (c ∷ [])) → _≡_ {A = Desk House Change}
+          (record { base = b'; log = l'; current = h'; last = n })
+          (cond t
+          (record { base = b; log = l ++ (c ∷ []); current = applied h c; last = n })
+          (record { base = foldl applied b (take 1 l); log = drop 1 l ++ (c ∷ []); current = applied h c; last = n }))
+      by-room true e f = λ i. record { base = e i; log = f i; current = g i; last = n }
+      by-room false e f = λ i. record { base = e i; log = f i; current = g i; last = n }

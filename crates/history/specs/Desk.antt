@@ -1,0 +1,45 @@
+-- This desk as the machine: its rules, and what its parts show. Also the bytes of an answer.
+use Prim.Native.Nat.{ℕ, _+_}
+use mathlib.Core.Bool.{cond}
+use mathlib.Core.List.{List, [], _∷_, foldl}
+use lib.Dec.{ltb}
+use lib.ListN.{length, take}
+use Rattle.request.specs.Bytes.{quadBytes}
+use Rattle.request.specs.declared.Request.{Request}
+use Rattle.records.specs.House.{House, view, emptyHouse}
+use Rattle.effects.specs.Effects.{applied}
+use Rattle.effects.specs.declared.Change.{Change}
+use Rattle.log.specs.Log.{past}
+use Rattle.judge.specs.Kinds.{rulingOf}
+use Rattle.judge.specs.declared.Ruling.{Ruling}
+use Rattle.judge.specs.declared.Ruling.the-variants.{Refused, Pass, Keep, KeepNumbered, TakeBack}
+use Rattle.history.specs.Machine.{Verdict, refuse, pass, make, issue, undo, Rulebook, Desk}
+use Rattle.history.specs.declared.Answer.{Answer}
+
+-- a change: the request, and the draft number that it received
+abbrev pub changeOf : Request → ℕ → Change
+changeOf q n = record { request = q; number = n }
+
+abbrev pub verdictOf : Request → Ruling → Verdict Change
+verdictOf q (Refused n) = refuse n
+verdictOf q Pass = pass
+verdictOf q Keep = make (changeOf q 0)
+verdictOf q KeepNumbered = issue (changeOf q)
+verdictOf q TakeBack = undo
+
+abbrev pub deskRules : Rulebook House Change Request
+deskRules = record { none = emptyHouse; apply = applied; judge = λ h q. verdictOf q (rulingOf h q) }
+
+-- what the parts of a desk and its last number show
+abbrev pub shown : List ℕ → List ℕ → List ℕ → ℕ → Desk House Change
+shown base log current last = record { base = view base; log = past log; current = view current; last = last }
+
+-- the base, where one more change is kept: of 32 the oldest goes into it
+abbrev pub settled : House → List Change → House
+settled h l = cond (ltb (length l) 32) h (foldl applied h (take 1 l))
+
+-- "80 granted; 81 and four bytes, granted with a draft number (09, 14, 15); C0 plus n, refused with n"
+abbrev pub answerBytes : Answer → List ℕ
+answerBytes Answer.Granted = 0x80 ∷ []
+answerBytes (Answer.Numbered n) = 0x81 ∷ quadBytes n []
+answerBytes (Answer.Refused n) = (0xC0 + n) ∷ []

@@ -1,0 +1,110 @@
+// The desk: its records, its kept changes, and one request after the other.
+ghost use mathlib.Core.Path.{_≡_};
+ghost use Prim.Native.Nat.{ℕ};
+ghost use Rattle.records.specs.House.{view};
+ghost use Rattle.log.specs.Log.{past};
+ghost use Rattle.history.specs.Machine.{opened, outcome, keep, takeBack, issued, step};
+ghost use Rattle.history.specs.Desk.{shown, deskRules, changeOf, settled};
+ghost use Rattle.counter.specs.Numbers.{nextAfter};
+use counter::Next;
+use effects::Change;
+use judge::Ruling;
+use log::Log;
+use records::Cells;
+use request::Request;
+
+// The records before the kept changes, the kept changes, and the records after them. The last draft number is held beside the desk.
+pub struct Desk {
+    pub base: [u32; 1858],
+    pub log: [u8; 418],
+    pub current: [u32; 1858],
+}
+
+pub enum Answer {
+    Granted,
+    Numbered(u32),
+    Refused(u8),
+}
+
+pub fn open() -> Desk
+    ensures { λ r. ⌜ ((last : ℕ) → shown (r .base) (r .log) (r .current) last ≡ opened deskRules last) ⌝ }
+{
+    Desk {
+        base: [0u32; 1858],
+        log: [0u8; 418],
+        current: [0u32; 1858],
+    }
+}
+
+// Of a full log the oldest change goes into the base: it can't be taken back any more.
+fn settle(base: &mut Cells, log: &Log)
+    ensures { λ _. ⌜ view (now (base .exit)) ≡ settled (view (now (base .entry))) (past (now (log .entry))) ⌝ }
+{
+    if log::kept_count(log) < 32 {
+        return;
+    }
+    let oldest = log::change_at(log, 0);
+    effects::apply(base, oldest);
+}
+
+fn make(base: &mut Cells, log: &mut Log, current: &mut Cells, change: Change)
+    ensures { λ _. ⌜ ((n m : ℕ) → shown (now (base .exit)) (now (log .exit)) (now (current .exit)) n ≡ keep deskRules (shown (now (base .entry)) (now (log .entry)) (now (current .entry)) m) change n) ⌝ }
+{
+    effects::apply(current, change);
+    settle(base, log);
+    log::push(log, change);
+}
+
+// The counter is stepped only where a number is left, and it never goes back.
+fn make_numbered(
+    base: &mut Cells,
+    log: &mut Log,
+    current: &mut Cells,
+    last: &mut u32,
+    request: Request,
+) -> Answer
+    ensures { λ r. ⌜ outcome (shown (now (base .exit)) (now (log .exit)) (now (current .exit)) (now (last .exit))) r ≡ issued deskRules (shown (now (base .entry)) (now (log .entry)) (now (current .entry)) (now (last .entry))) (changeOf request) (nextAfter (now (last .entry))) ⌝ }
+{
+    let issued = counter::issue_from(*last);
+    let next = issued.next;
+    let Next::Number(number) = next else {
+        return Answer::Refused(11);
+    };
+    *last = issued.last;
+    make(base, log, current, Change { request, number });
+    Answer::Numbered(number)
+}
+
+fn take_back(base: &Cells, log: &mut Log, current: &mut Cells) -> Answer
+    ensures { λ r. ⌜ ((last : ℕ) → outcome (shown (now (base .entry)) (now (log .exit)) (now (current .exit)) last) r ≡ takeBack deskRules (shown (now (base .entry)) (now (log .entry)) (now (current .entry)) last)) ⌝ }
+{
+    if log::kept_count(log) == 0 {
+        return Answer::Refused(12);
+    }
+    log::pop(log);
+    log::replay(base, log, current);
+    Answer::Granted
+}
+
+// One request, on any desk: judged, then refused, passed, made and kept, or taken back. Only a take-back copies records.
+pub fn take(
+    base: &mut Cells,
+    log: &mut Log,
+    current: &mut Cells,
+    last: &mut u32,
+    request: Request,
+) -> Answer
+    ensures { λ r. ⌜ outcome (shown (now (base .exit)) (now (log .exit)) (now (current .exit)) (now (last .exit))) r ≡ step deskRules (shown (now (base .entry)) (now (log .entry)) (now (current .entry)) (now (last .entry))) request ⌝ }
+{
+    let ruling = judge::judge(current, request);
+    match ruling {
+        Ruling::Refused(n) => Answer::Refused(n),
+        Ruling::Pass => Answer::Granted,
+        Ruling::Keep => {
+            make(base, log, current, Change { request, number: 0 });
+            Answer::Granted
+        }
+        Ruling::KeepNumbered => make_numbered(base, log, current, last, request),
+        Ruling::TakeBack => take_back(base, log, current),
+    }
+}

@@ -1,0 +1,75 @@
+-- `create` asks the lines of 15 in their order. `asks-k`: the code asks the k-th, with those of its number; `after-k`: the first k are passed.
+use borrow.Author.Needs.{needs}
+use borrow.Author.Tests.{not-true, not-false}
+use Prim.Native.Nat.{ℕ}
+use mathlib.Core.Path.{ap, _∙_}
+use mathlib.Core.Bool.{Bool, not, _&&_}
+use mathlib.Core.List.{List, _∷_}
+use lib.ListN.{drop}
+use Rattle.records.specs.House.{House, view}
+use Rattle.judge.specs.declared.Ruling.the-variants.{KeepNumbered}
+use Rattle.judge.specs.Refusals.{Line, _unless_}
+use Rattle.judge.specs.Kinds.{isScript, createLines}
+use Rattle.judge.proofs.Lines.{Left, none-asked, together, asked, passed, refused, granted}
+use Rattle.judge.proofs.Lookups.{found, missing, found-session}
+use Rattle.judge.proofs.create.Statement.{statement}
+use Rattle.judge.proofs.create.Tie as tie
+
+abbrev h : tie.Start → House
+h s = view (s .args .records .now)
+
+abbrev lines : tie.Start → List Line
+lines s = createLines (h s) (s .args .session) (s .args .script)
+
+abbrev After : ℕ → tie.Start → Type 0
+After k s = Left KeepNumbered (lines s) (drop k (lines s))
+
+abbrev Asks : ℕ → Bool → ℕ → tie.Start → Type 0
+Asks n f k s = Left KeepNumbered (lines s) (n unless f ∷ drop k (lines s))
+
+asks-2 : (c : tie.After-is-id2) → Asks 3 (c .before .is-id .result && c .is-id2 .result) 2 (c .before .before)
+unfolding createLines
+asks-2 c = asked (together none-asked) (λ k. c .before .is-id .ensures k && c .is-id2 .ensures k)
+
+after-3 : (c : tie.After-known-told) → After 3 (c .before .before .before .before .before .before .before)
+unfolding createLines
+after-3 c = passed (passed (asks-2 (c .before .before .before .before .before)) (not-false _ (c .before .before .before .before .if1 .left))) (found _ _ (c .before .before .before .find-session .ensures) (c .before .s .given .1))
+
+after-4 : (c : tie.After-enum-told2) → After 4 (c .before .before .before .before .before .before .before .before .before .before)
+unfolding createLines
+after-4 c =
+    let s = c .before .before .before .before .before .before .before .before .before .before in
+    passed (after-3 (c .before .before .before)) (ap not (missing (isScript (h s) (s .args .script)) _ (c .before .before .find-script .ensures) (c .enum-told2 .given .1)))
+
+asks-5 : (c : tie.After-writes) → Asks 7 (c .writes .result) 5 (c .before .before .before .before .before .before .before .before .before .before .before)
+unfolding createLines
+asks-5 c =
+    let s = c .before .before .before .before .before .before .before .before .before .before .before in
+    let s-is = found-session (h s) (s .args .session) (c .before .before .before .before .before .before .before .find-session .ensures) (c .before .before .before .before .before .s .given .1) in
+    asked (after-4 (c .before)) (c .writes .ensures ∙ λ k. s-is k .writes)
+
+asks-6 : (c : tie.After-draft-room) → Asks 10 (c .draft-room .result) 6 (c .before .before .before .before .before .before .before .before .before .before .before .before .before)
+unfolding createLines
+asks-6 c = asked (passed (asks-5 (c .before .before)) (not-false _ (c .before .if2 .left))) (c .draft-room .ensures)
+
+pub create-spec : {M : Type 1} → statement M
+unfolding createLines
+create-spec =
+    tie.close
+    (tie.spec
+    (λ c κs. search needs)
+    (λ c κs. search needs)
+    (λ c. refused (asks-2 (c .before)) (not-true _ (c .if1 .taken)))
+    (λ c κs. search needs)
+    (λ c. search needs)
+    (λ c. search needs)
+    (λ c. refused (passed (asks-2 (c .before .before .before .before)) (not-false _ (c .before .before .before .if1 .left))) (missing _ _ (c .before .before .find-session .ensures) (c .enum-told .given .1)))
+    (λ c κs. search needs)
+    (λ c. search needs)
+    (λ c. search needs)
+    (λ c. let s = c .before .before .before .before .before .before .before .before .before .before in refused (after-3 (c .before .before .before)) (ap not (found (isScript (h s) (s .args .script)) _ (c .before .before .find-script .ensures) (c .enum-told3 .given .1))))
+    (λ c κs. search needs)
+    (λ c. refused (asks-5 (c .before)) (not-true _ (c .if2 .taken)))
+    (λ c κs. search needs)
+    (λ c. refused (asks-6 (c .before)) (not-true _ (c .if3 .taken)))
+    (λ c. granted (passed (asks-6 (c .before)) (not-false _ (c .if3 .left)))))

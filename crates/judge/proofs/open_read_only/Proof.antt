@@ -1,0 +1,71 @@
+-- `open_read_only` asks the lines of 12 in their order. `asks-k`: the code asks the k-th, with those of its number; `after-k`: the first k are passed.
+use borrow.Author.Needs.{needs}
+use borrow.Author.Tests.{not-true, not-false}
+use Prim.Native.Nat.{ℕ}
+use mathlib.Core.Path.{ap, _∙_}
+use mathlib.Core.Bool.{Bool, not, _&&_}
+use mathlib.Core.List.{List, _∷_}
+use lib.ListN.{drop}
+use Rattle.records.specs.House.{House, view}
+use Rattle.conditions.specs.Conditions.{opens}
+use Rattle.judge.specs.declared.Ruling.the-variants.{Keep}
+use Rattle.judge.specs.Refusals.{Line, _unless_}
+use Rattle.judge.specs.Kinds.{isSession, openReadOnlyLines}
+use Rattle.judge.proofs.Lines.{Left, none-asked, together, asked, passed, refused, granted}
+use Rattle.judge.proofs.Lookups.{found, missing, found-user}
+use Rattle.judge.proofs.open_read_only.Statement.{statement}
+use Rattle.judge.proofs.open_read_only.Tie as tie
+
+abbrev h : tie.Start → House
+h s = view (s .args .records .now)
+
+abbrev lines : tie.Start → List Line
+lines s = openReadOnlyLines (h s) (s .args .u) (s .args .session) (s .args .level) (s .args .categories)
+
+abbrev After : ℕ → tie.Start → Type 0
+After k s = Left Keep (lines s) (drop k (lines s))
+
+abbrev Asks : ℕ → Bool → ℕ → tie.Start → Type 0
+Asks n f k s = Left Keep (lines s) (n unless f ∷ drop k (lines s))
+
+asks-3 : (c : tie.After-is-level) → Asks 3 (c .before .before .is-id .result && c .before .is-id2 .result && c .is-level .result) 3 (c .before .before .before)
+unfolding openReadOnlyLines
+asks-3 c = asked (together (together none-asked)) (λ k. c .before .before .is-id .ensures k && c .before .is-id2 .ensures k && c .is-level .ensures k)
+
+after-4 : (c : tie.After-known-told) → After 4 (c .before .before .before .before .before .before .before .before)
+unfolding openReadOnlyLines
+after-4 c = passed (passed (asks-3 (c .before .before .before .before .before)) (not-false _ (c .before .before .before .before .if1 .left))) (found _ _ (c .before .before .before .find-user .ensures) (c .before .i .given .1))
+
+after-5 : (c : tie.After-enum-told2) → After 5 (c .before .before .before .before .before .before .before .before .before .before .before)
+unfolding openReadOnlyLines
+after-5 c =
+    let s = c .before .before .before .before .before .before .before .before .before .before .before in
+    passed (after-4 (c .before .before .before)) (ap not (missing (isSession (h s) (s .args .session)) _ (c .before .before .find-session .ensures) (c .enum-told2 .given .1)))
+
+asks-6 : (c : tie.After-opens) → Asks 9 (c .opens .result) 6 (c .before .before .before .before .before .before .before .before .before .before .before .before)
+unfolding openReadOnlyLines
+asks-6 c =
+    let s = c .before .before .before .before .before .before .before .before .before .before .before .before in
+    let i-is = found-user (h s) (s .args .u) (c .before .before .before .before .before .before .before .find-user .ensures) (c .before .before .before .before .before .i .given .1) in
+    asked (after-5 (c .before)) (c .opens .ensures ∙ λ k. opens (i-is k) (s .args .level) (s .args .categories))
+
+pub open-read-only-spec : {M : Type 1} → statement M
+unfolding openReadOnlyLines
+open-read-only-spec =
+    tie.close
+    (tie.spec
+    (λ c κs. search needs)
+    (λ c κs. search needs)
+    (λ c κs. search needs)
+    (λ c. refused (asks-3 (c .before)) (not-true _ (c .if1 .taken)))
+    (λ c κs. search needs)
+    (λ c. search needs)
+    (λ c. search needs)
+    (λ c. refused (passed (asks-3 (c .before .before .before .before)) (not-false _ (c .before .before .before .if1 .left))) (missing _ _ (c .before .before .find-user .ensures) (c .enum-told .given .1)))
+    (λ c κs. search needs)
+    (λ c. search needs)
+    (λ c. search needs)
+    (λ c. let s = c .before .before .before .before .before .before .before .before .before .before .before in refused (after-4 (c .before .before .before)) (ap not (found (isSession (h s) (s .args .session)) _ (c .before .before .find-session .ensures) (c .enum-told3 .given .1))))
+    (λ c κs. search needs)
+    (λ c. refused (asks-6 (c .before)) (not-true _ (c .if2 .taken)))
+    (λ c. granted (passed (asks-6 (c .before)) (not-false _ (c .if2 .left)))))

@@ -1,0 +1,47 @@
+-- From a grant: every condition of the request's kind held.
+use Prim.Native.Nat.{ℕ, zero, suc}
+use mathlib.Core.Path.{_≡_, refl, sym, ap, _∙_}
+use mathlib.Core.Bool.{Bool, true, false}
+use mathlib.Core.List.{List}
+use lib.ListN.{getD}
+use Rattle.records.specs.House.{House}
+use Rattle.request.specs.declared.Request.{Request}
+use Rattle.judge.specs.declared.Ruling.{Ruling}
+use Rattle.judge.specs.declared.Ruling.the-variants.{Refused, Pass, Keep, KeepNumbered, TakeBack}
+use Rattle.judge.specs.Refusals.{Line, _unless_, AllHold, none, more}
+use Rattle.judge.specs.Kinds.{linesOf, grantOf, rulingOf}
+use Rattle.judge.proofs.Order.{all-granted, first-refused, Verdict, grant, refusal, verdict}
+use Rattle.promises.proofs.Bools.{clash}
+
+abbrev pub fact : Line → Bool
+fact (n unless b) = b
+
+-- the fact of each line holds; the first is line 0
+abbrev pub Hold : List Line → Type 0
+Hold lines = (k : ℕ) → fact (getD lines k (0 unless true)) ≡ true
+
+each-holds : {lines : List Line} → AllHold lines → Hold lines
+each-holds none k = refl
+each-holds (more e a) zero = e
+each-holds (more e a) (suc k) = each-holds a k
+
+abbrev pub isGrant : Ruling → Bool
+isGrant (Refused n) = false
+isGrant Pass = true
+isGrant Keep = true
+isGrant KeepNumbered = true
+isGrant TakeBack = true
+
+-- a request that is offered a grant where the lines hold, and was granted g
+pub record Granted (offered : Ruling) (lines : List Line) (g : Ruling) : Type 0 where
+  pub given : offered ≡ g
+  pub hold : Hold lines
+
+-- a granted request: all conditions of its kind hold, and the grant is the kind's own
+pub conditions : (h : House) (q : Request) (g : Ruling) → isGrant g ≡ true → rulingOf h q ≡ g → Granted (grantOf q) (linesOf h q) g
+unfolding rulingOf
+conditions h q g t e = go (verdict (linesOf h q))
+  where
+    go : Verdict (linesOf h q) → Granted (grantOf q) (linesOf h q) g
+    go (grant a) = record { given = sym (all-granted (grantOf q) a) ∙ e; hold = each-holds a }
+    go (refusal n f) = clash t (ap isGrant (sym e ∙ first-refused (grantOf q) f))

@@ -1,0 +1,22 @@
+-- The promises: Demands (2 and 3), Reached (the record rules), Determined (contracts), and the laws that they take.
+pub mod Bools
+pub mod Lists
+pub mod Sets
+pub mod Rules
+pub mod Meaning
+pub mod Granted
+pub mod Parts
+pub mod Drafts
+pub mod Users
+pub mod Sessions
+pub mod Texts
+pub mod Sweep
+pub mod Kept
+pub mod Frames
+pub mod Numbers
+pub mod Reached
+pub mod Agrees
+pub mod Runs
+pub mod Trace
+pub mod Demands
+pub mod Determined

@@ -1,0 +1,73 @@
+-- Demand 3 over any run of requests from an opening: the records, the answers, the take-backs and the numbers.
+use mathlib.Core.Path.{_≡_, refl, sym, ap, _∙_, subst}
+use mathlib.Core.Bool.{Bool, true, false, cond}
+use mathlib.Core.List.{List, [], _∷_, _++_, foldl}
+use Prim.Native.Nat.{ℕ, _+_, _-_, _≤_, _<_, min}
+use native.Mathlib.Omega.{arith}
+use lib.Dec.{eqb}
+use lib.ListN.{length, take}
+use borrow.Author.Tests.{eqb-true, eqb-false}
+use Rattle.counter.specs.Numbers.{top, nextAfter}
+use Rattle.counter.specs.declared.Next.{Next}
+use Rattle.counter.specs.declared.Next.the-variants.{Number, Spent}
+use Rattle.history.specs.declared.Answer.{Answer}
+use Rattle.history.specs.declared.Answer.the-variants.{Granted, Numbered, Refused}
+use Rattle.history.specs.Machine.{Verdict, refuse, pass, make, issue, undo, Rulebook, Desk, Outcome, opened, after, keep, takeBack, issued, ruled, step, run, answers}
+use Rattle.promises.specs.Book.{Book, Entry, entry, blank, recordsOf, enter, strike, numbered, noted, note, bookAfter, bookAnswers, numbers, Rising, Event, kept, back, nothing, events, survive, keptCount, Shows}
+use Rattle.promises.proofs.Agrees.{Agrees, opened-agrees, Same, step-same}
+
+-- ---- numbers: what follows the last number is larger
+next-larger : (last n : ℕ) → nextAfter last ≡ Number n → last < n
+next-larger last n e = by-top (eqb last top) e
+  where
+    by-top : (t : Bool) → cond t Spent (Number (last + 1)) ≡ Number n → last < n
+    by-top true e = let z : _≡_ {A = ℕ} 0 1 = cc in absurd (omega arith)
+    by-top false e = let m : last + 1 ≡ n = cc in omega arith
+
+module _ {S C Q : Type 0} (R : Rulebook S C Q) where
+  -- the desk and the book agree after any run
+  pub run-agrees : (d : Desk S C) (b : Book C) → Agrees R d b → (qs : List Q) → Agrees R (run R d qs) (bookAfter R b qs)
+  run-agrees d b a [] = a
+  run-agrees d b a (q ∷ qs) = run-agrees (step R d q .desk) (note R b q .book) (step-same R d b a q .agrees) qs
+
+  pub run-answers : (d : Desk S C) (b : Book C) → Agrees R d b → (qs : List Q) → answers R d qs ≡ bookAnswers R b qs
+  run-answers d b a [] = refl
+  run-answers d b a (q ∷ qs) =
+      let s = step-same R d b a q in
+      (λ i. s .answers i ∷ run-answers (step R d q .desk) (note R b q .book) (s .agrees) qs i)
+
+  -- "the records equal those got by starting empty and applying, in order, every granted change that wasn't taken back, each with the draft number it received"
+  pub records-are-survivors : (last : ℕ) (qs : List Q) → run R (opened R last) qs .current ≡ after R (R .none) (bookAfter R (blank last) qs .survivors)
+  records-are-survivors last qs = run-agrees (opened R last) (blank last) (opened-agrees R last) qs .now
+
+  -- the book gives every answer that the desk gives
+  pub answers-are-the-books : (last : ℕ) (qs : List Q) → answers R (opened R last) qs ≡ bookAnswers R (blank last) qs
+  answers-are-the-books last qs = run-answers (opened R last) (blank last) (opened-agrees R last) qs
+
+  -- ---- "Each draft number is larger than all before it, taken-back ones included."
+  rising-step : (b : Book C) (v : Verdict C) (more : Book C → List Answer) → ((c : Book C) → Rising (c .last) (numbers (more c)))
+      → Rising (b .last) (numbers (noted R b v .answer ∷ more (noted R b v .book)))
+  rising-step b (refuse n) more later = later b
+  rising-step b pass more later = later b
+  rising-step b (make c) more later = later (enter R b c (b .last))
+  rising-step b (issue f) more later = by-next (nextAfter (b .last)) refl
+    where
+      by-next : (x : Next) → nextAfter (b .last) ≡ x → Rising (b .last) (numbers (numbered R b f x .answer ∷ more (numbered R b f x .book)))
+      by-next (Number n) e = (next-larger (b .last) n e, later (enter R b (f n) n))
+      by-next Spent e = later b
+  rising-step b undo more later = by-count (eqb (b .count) 0)
+    where
+      struck : Entry C
+      struck = entry (record { survivors = take (length (b .survivors) - 1) (b .survivors); count = b .count - 1; last = b .last }) Granted
+
+      by-count : (t : Bool) → Rising (b .last) (numbers (cond t (entry b (Refused 12)) struck .answer ∷ more (cond t (entry b (Refused 12)) struck .book)))
+      by-count true = later b
+      by-count false = later (struck .book)
+
+  book-rising : (b : Book C) (qs : List Q) → Rising (b .last) (numbers (bookAnswers R b qs))
+  unfolding note
+  book-rising b [] = tt
+  book-rising b (q ∷ qs) = rising-step b (R .judge (recordsOf R b) q) (λ c. bookAnswers R c qs) (λ c. book-rising c qs)
+
+  pub numbers-rise : (last : ℕ) (qs : List Q) → Rising last (numbers (answers R (opened R last) qs))
+  numbers-rise last qs = subst (λ (l : List Answer). Rising last (numbers l)) (sym (answers-are-the-books last qs)) (book-rising (blank last) qs)

@@ -1,0 +1,85 @@
+-- One session anew: Open and Kill keep the record rules.
+use Prim.Native.Nat.{ℕ, _%_, _≤_, _<_}
+use mathlib.Core.Path.{_≡_, refl, _∙_}
+use mathlib.Core.Bool.{true, _&&_}
+use native.Mathlib.Omega.{arith}
+use native.Mathlib.Nat.{mod-eq-of-lt}
+use lib.Dec.{eqb, leb}
+use lib.Bits.{bitAnd}
+use lib.ListN.{length-set}
+use borrow.Author.Tests.{leb-true}
+use Rattle.records.specs.Places.{has, within}
+use Rattle.records.specs.House.{House, noSession, house, staff, user, putSession}
+use Rattle.records.specs.declared.Session.{Session}
+use Rattle.effects.specs.Elements.{writing, reading}
+use Rattle.conditions.specs.Conditions.{covers}
+use Rattle.promises.proofs.Bools.{clash, left, right}
+use Rattle.promises.proofs.Lists.{at-set}
+use Rattle.promises.proofs.Rules.{LabelFits, Writing, Seated, Rules}
+use Rattle.promises.proofs.Parts.{place-house, place-room, none-seated}
+
+-- ---- of labels that fit their bytes: one covers another where its level is no lower and its categories contain the other's
+pub record Covers (level c level′ c′ : ℕ) : Type 0 where
+  pub no-higher : level′ ≤ level
+  pub contained : within c′ c ≡ true
+
+pub covers-are : (level c level′ c′ : ℕ) → LabelFits level c → LabelFits level′ c′ → covers level c level′ c′ ≡ true → Covers level c level′ c′
+unfolding within
+covers-are level c level′ c′ f g h =
+    let a : level % 256 ≡ level = mod-eq-of-lt (omega (arith, f .level-fits)) in
+    let b : c % 65536 ≡ c = mod-eq-of-lt (f .categories-fit) in
+    let d : level′ % 256 ≡ level′ = mod-eq-of-lt (omega (arith, g .level-fits)) in
+    let e : c′ % 65536 ≡ c′ = mod-eq-of-lt (g .categories-fit) in
+    let k : (leb level′ level && eqb (bitAnd c c′) c′) ≡ true = rw (a, b, d, e) at h in
+    record {
+      no-higher = leb-true level′ level (left (leb level′ level) (eqb (bitAnd c c′) c′) k);
+      contained = right (leb level′ level) (eqb (bitAnd c c′) c′) k;
+    }
+
+module _ (h : House) (last : ℕ) (R : Rules h last) (x : ℕ) (small : x < 64) where
+  put-session : (v : Session) → Seated (h .rooms) (h .users) v → Rules (putSession h x v) last
+  put-session v f = record {
+    people = R .people;
+    seats = record {
+      size = length-set (h .sessions) x v ∙ R .seats .size;
+      each = λ i. at-set noSession (Seated (h .rooms) (h .users)) (h .sessions) x v i (rw (R .seats .size) small) (λ _. f) (λ _. R .seats .each i);
+    };
+    texts = R .texts;
+    counter = R .counter;
+  }
+
+  -- ---- 16 Kill
+  pub kill : Rules (putSession h x noSession) last
+  kill = put-session noSession (none-seated (h .rooms) (user h 0))
+
+  module _ (u level c : ℕ) (hu : user h u .here ≡ true) (label : LabelFits level c) where
+    -- ---- 12 Open RO
+    pub open-read-only : Rules (putSession h x (reading u level c)) last
+    open-read-only = put-session (reading u level c)
+        (record { absent = λ k. clash refl k; label = label; owner-there = λ _. hu; writing = λ k. clash k refl; reading = λ _ _. refl })
+
+    open-at : (place : ℕ) → Writing (h .rooms) (user h u) (writing u level c place) → Rules (putSession h x (writing u level c place)) last
+    open-at place w = put-session (writing u level c place)
+        (record { absent = λ k. clash refl k; label = label; owner-there = λ _. hu; writing = λ _. w; reading = λ _ k. clash refl k })
+
+    module _ (opens : Covers (user h u .level) (user h u .categories) level c) where
+      -- ---- 10 Open RW in room
+      pub open-in-room : (room : ℕ) → 1 ≤ room → has (h .rooms) room ≡ true → has (user h u .rooms) room ≡ true
+          → Rules (putSession h x (writing u level c room)) last
+      open-in-room room low there member = open-at room (record {
+        place-there = place-room (h .rooms) room there;
+        house-staff = λ e. absurd (omega arith);
+        room-member = λ _. member;
+        level-within = opens .no-higher;
+        categories-within = opens .contained;
+      })
+
+      -- ---- 11 Open RW in house
+      pub open-in-house : user h u .sort ≡ staff → Rules (putSession h x (writing u level c house)) last
+      open-in-house is-staff = open-at house (record {
+        place-there = place-house (h .rooms);
+        house-staff = λ _. is-staff;
+        room-member = λ n. absurd (n refl);
+        level-within = opens .no-higher;
+        categories-within = opens .contained;
+      })

@@ -1,0 +1,93 @@
+-- Demand 3 once more, over requests and answers alone, and what a take-back does.
+use mathlib.Core.Path.{_≡_, refl, sym, ap, _∙_, subst}
+use mathlib.Core.Bool.{Bool, true, false, cond}
+use mathlib.Core.List.{List, [], _∷_, _++_}
+use Prim.Native.Nat.{ℕ, _+_, _-_, _≤_, _<_, min}
+use native.Mathlib.Omega.{arith}
+use lib.Dec.{eqb}
+use lib.ListN.{length, take}
+use borrow.Author.Tests.{eq-eqb, ne-eqb, eqb-true, eqb-false}
+use Rattle.counter.specs.Numbers.{nextAfter}
+use Rattle.counter.specs.declared.Next.{Next}
+use Rattle.counter.specs.declared.Next.the-variants.{Number, Spent}
+use Rattle.history.specs.declared.Answer.{Answer}
+use Rattle.history.specs.declared.Answer.the-variants.{Granted, Numbered, Refused}
+use Rattle.history.specs.Machine.{Verdict, refuse, pass, make, issue, undo, Rulebook, Desk, Outcome, outcome, opened, after, takeBack, ruled, step, run, answers}
+use Rattle.promises.specs.Book.{Book, Entry, entry, blank, recordsOf, enter, strike, numbered, noted, note, bookAfter, bookAnswers, numbers, Rising, Event, kept, back, nothing, events, survive, keptCount, Shows}
+use Rattle.promises.proofs.Agrees.{Agrees, opened-agrees, Same, step-same}
+use Rattle.promises.proofs.Runs.{run-agrees, records-are-survivors, answers-are-the-books, numbers-rise}
+
+-- what a granted take-back leaves
+pub record TakenBack {S C Q : Type 0} (R : Rulebook S C Q) (d : Desk S C) (o : Outcome S C) : Type 0 where
+  pub answer : o .answer ≡ Granted
+  pub log : o .desk .log ≡ take (length (d .log) - 1) (d .log)
+  pub base : o .desk .base ≡ d .base
+  pub last : o .desk .last ≡ d .last
+  pub records : o .desk .current ≡ after R (d .base) (take (length (d .log) - 1) (d .log))
+
+module _ {S C Q : Type 0} (R : Rulebook S C Q) (f : Q → Answer → Event C) (shows : Shows R f) where
+  -- what one entry of the book adds is what its answer shows
+  module _ (b : Book C) (q : Q) (es : List (Event C)) where
+    abbrev Shown : Entry C → Type 0
+    Shown e =
+        (survive (e .book .survivors) es ≡ survive (b .survivors) (f q (e .answer) ∷ es))
+        × (keptCount (e .book .count) es ≡ keptCount (b .count) (f q (e .answer) ∷ es))
+
+    one-shown : (v : Verdict C) → R .judge (recordsOf R b) q ≡ v → Shown (noted R b v)
+    one-shown (refuse n) e = rw (shows .refused q n) (refl, refl)
+    one-shown pass e = rw (shows .passed (recordsOf R b) q e) (refl, refl)
+    one-shown (make c) e = rw (shows .made (recordsOf R b) q c e) (refl, refl)
+    one-shown (issue g) e = by-next (nextAfter (b .last))
+      where
+        by-next : (x : Next) → Shown (numbered R b g x)
+        by-next (Number n) = rw (shows .issued (recordsOf R b) q g n e) (refl, refl)
+        by-next Spent = rw (shows .refused q 11) (refl, refl)
+    one-shown undo e = by-count (eqb (b .count) 0)
+      where
+        by-count : (t : Bool) → Shown (cond t (entry b (Refused 12))
+            (entry (record { survivors = take (length (b .survivors) - 1) (b .survivors); count = b .count - 1; last = b .last }) Granted))
+        by-count true = rw (shows .refused q 12) (refl, refl)
+        by-count false = rw (shows .undone (recordsOf R b) q e) (refl, refl)
+
+  all-shown : (b : Book C) (qs : List Q) → (bookAfter R b qs .survivors ≡ survive (b .survivors) (events f qs (bookAnswers R b qs)))
+      × (bookAfter R b qs .count ≡ keptCount (b .count) (events f qs (bookAnswers R b qs)))
+  unfolding note
+  all-shown b [] = (refl, refl)
+  all-shown b (q ∷ qs) =
+      let e = noted R b (R .judge (recordsOf R b) q) in
+      let later = all-shown (e .book) qs in
+      let one = one-shown b q (events f qs (bookAnswers R (e .book) qs)) (R .judge (recordsOf R b) q) refl in
+      (later .0 ∙ one .0, later .1 ∙ one .1)
+
+  -- the records are the survivors among the changes that the requests and their answers show
+  pub records-are-shown : (last : ℕ) (qs : List Q)
+      → run R (opened R last) qs .current ≡ after R (R .none) (survive [] (events f qs (answers R (opened R last) qs)))
+  records-are-shown last qs =
+      records-are-survivors R last qs
+      ∙ ap (after R (R .none)) (all-shown (blank last) qs .0 ∙ ap (λ (l : List Answer). survive [] (events f qs l)) (sym (answers-are-the-books R last qs)))
+
+  -- ---- a take-back that the rules allow, after any run: by the kept count that the requests and their answers show
+  module _ (last : ℕ) (qs : List Q) (q : Q) where
+    abbrev now : Desk S C
+    now = run R (opened R last) qs
+
+    abbrev keptNow : ℕ
+    keptNow = keptCount 0 (events f qs (answers R (opened R last) qs))
+
+    log-is-count : length (now .log) ≡ keptNow
+    log-is-count =
+        sym (run-agrees R (opened R last) (blank last) (opened-agrees R last) qs .count-is)
+        ∙ all-shown (blank last) qs .1 ∙ ap (λ (l : List Answer). keptCount 0 (events f qs l)) (sym (answers-are-the-books R last qs))
+
+    -- 12 "the kept count is 0": where none is kept, the take-back is refused and nothing changes
+    pub none-to-take-back : R .judge (now .current) q ≡ undo → keptNow ≡ 0 → step R now q ≡ outcome now (Refused 12)
+    unfolding step takeBack
+    none-to-take-back e z = ap (ruled R now) e ∙ rw (eq-eqb (length (now .log)) 0 (log-is-count ∙ z))
+
+    -- else it is granted, the newest kept change goes and no other, and the number stays
+    pub take-back-granted : R .judge (now .current) q ≡ undo → (keptNow ≡ 0 → ⊥) → TakenBack R now (step R now q)
+    unfolding step takeBack
+    take-back-granted e n =
+        let some : length (now .log) ≡ 0 → ⊥ = λ z. n (sym log-is-count ∙ z) in
+        subst (TakenBack R now) (sym (ap (ruled R now) e ∙ rw (ne-eqb (length (now .log)) 0 some)))
+        (record { answer = refl; log = refl; base = refl; last = refl; records = refl })

@@ -1,0 +1,276 @@
+-- One user anew: Enrol, Establish, Join and Leave keep the record rules.
+use Prim.Native.Nat.{ℕ, _≤_, _<_}
+use mathlib.Core.Path.{_≡_, refl, sym, ap, _∙_, subst}
+use mathlib.Core.Bool.{Bool, true, false, cond}
+use mathlib.Core.List.{List}
+use mathlib.Core.Logic.{_⊎_, inl, inr}
+use native.Mathlib.Omega.{arith}
+use native.Mathlib.Decide.{ℕ-discrete, decLe}
+use lib.Dec.{eqb}
+use lib.ListN.{length, getD, set, length-set, List·getD-eq-default}
+use borrow.Author.Tests.{eq-eqb, ne-eqb}
+use Rattle.records.specs.Places.{has, with, without}
+use Rattle.records.specs.House.{House, noUser, staff, outsider, user, putUser, putRooms}
+use Rattle.records.specs.declared.User.{User}
+use Rattle.records.specs.declared.Session.{Session}
+use Rattle.records.proofs.Places.{has-none, without-zero}
+use Rattle.effects.specs.Elements.{enrolled, leading, joined, left, hired, endsFor}
+use Rattle.effects.specs.Effects.{departed}
+use Rattle.promises.proofs.Bools.{clash}
+use Rattle.promises.proofs.Lists.{at-set}
+use Rattle.promises.proofs.Sets.{Among, some, with-new, with-old, with-other, with-among, without-other, without-among, RoomNumber, number-room}
+use Rattle.promises.proofs.Rules.{LabelFits, UserFine, Administered, Led, People, Writing, SessionFine, Seated, Rules}
+use Rattle.promises.proofs.Parts.{led-move, admin-move, user-more, Stays, stays, session-stays, seats-more, seated-put, seats-put, seats-end}
+use Rattle.promises.proofs.Drafts.{texts-more}
+
+-- who is there stands in the table
+here-fits : (us : List User) (w : ℕ) → getD us w noUser .here ≡ true → w < length us
+here-fits us w h = go (decLe (length us) w)
+  where
+    go : Dec (length us ≤ w) → w < length us
+    go (yes k) = clash h (ap (λ (x : User). x .here) (List·getD-eq-default us noUser k))
+    go (no n) = omega arith
+
+-- ---- a user anew who leads what the one before led
+module _ (us : List User) (w : ℕ) (v : User) (fits : w < length us) where
+  put-leads : v .leads ≡ getD us w noUser .leads → (i : ℕ) → getD (set us w v) i noUser .leads ≡ getD us i noUser .leads
+  put-leads e i = at-set noUser (λ x. x .leads ≡ getD us i noUser .leads) us w v i fits (λ q. rw q e) (λ _. refl)
+
+  put-admin : v .here ≡ true → (getD us w noUser .admin ≡ true → v .admin ≡ true) → Administered us → Administered (set us w v)
+  put-admin k f = admin-move us (set us w v)
+      (λ i h. at-set noUser (λ x. x .here ≡ true) us w v i fits (λ _. k) (λ _. h))
+      (λ i h. at-set noUser (λ x. x .admin ≡ true) us w v i fits (λ q. f (rw q at h)) (λ _. h))
+
+  put-people : (rooms : ℕ) → UserFine rooms v → v .leads ≡ getD us w noUser .leads → Administered (set us w v) → People rooms us → People rooms (set us w v)
+  put-people rooms f e a P = record {
+    size = length-set us w v ∙ P .size;
+    numbers = P .numbers;
+    each = λ i. at-set noUser (UserFine rooms) us w v i fits (λ _. f) (λ _. P .each i);
+    administered = λ i k. a;
+    led = λ r k. led-move us (set us w v) r (λ i. ap (λ (s : ℕ). has s r) (put-leads e i)) (P .led r k);
+  }
+
+module _ (h : House) (last : ℕ) (R : Rules h last) where
+  -- ---- 01 Enrol
+  pub enrol : (new sort level c admin : ℕ) → new < 64 → user h new .here ≡ false → sort ≤ 2 → LabelFits level c → (eqb admin 1 ≡ true → sort ≡ staff)
+      → (sort ≡ outsider → (level ≡ 0) × (c ≡ 0)) → (eqb admin 1 ≡ true) ⊎ Administered (h .users) → Rules (putUser h new (enrolled sort level c admin)) last
+  enrol new sort level c admin small free known label chief bare by = record {
+    people = put-people (h .users) new v fits (h .rooms) fine (rw absent) (ruled by) (R .people);
+    seats = seats-put (h .rooms) (h .users) new v fits (h .sessions) (λ x e f. nobody x f (x .here) refl) (R .seats);
+    texts = R .texts;
+    counter = R .counter;
+  }
+    where
+      v : User
+      v = enrolled sort level c admin
+
+      fits : new < length (h .users)
+      fits = rw (R .people .size) small
+
+      absent : user h new ≡ noUser
+      absent = R .people .each new .absent free
+
+      fine : UserFine (h .rooms) v
+      fine = record {
+        absent = λ k. clash refl k;
+        sort-known = known;
+        label = label;
+        joined-there = λ p k. clash k (has-none p);
+        led-there = λ p k. clash k (has-none p);
+        admin-staff = chief;
+        lead-staff = λ _. refl;
+        outsider-bare = λ e. record { level-zero = bare e .0; categories-zero = bare e .1; no-room = refl };
+      }
+
+      ruled : (eqb admin 1 ≡ true) ⊎ Administered (h .users) → Administered (set (h .users) new v)
+      ruled (inl a) = record {
+        who = new;
+        is-here = at-set noUser (λ x. x .here ≡ true) (h .users) new v new fits (λ _. refl) (λ n. absurd (n refl));
+        is-admin = at-set noUser (λ x. x .admin ≡ true) (h .users) new v new fits (λ _. a) (λ n. absurd (n refl));
+      }
+      ruled (inr a) = put-admin (h .users) new v fits refl (λ k. clash k (rw absent)) a
+
+      -- nobody owned a session under that number
+      nobody : (x : Session) → SessionFine (h .rooms) (user h new) x → (b : Bool) → x .here ≡ b → SessionFine (h .rooms) v x
+      nobody x f true k = clash (f .owner-there k) free
+      nobody x f false k = session-stays (h .rooms) (h .rooms) (user h new) v x (λ _. refl) (λ w _. clash w (ap (λ (y : Session). y .writes) (f .absent k))) f
+
+  -- ---- a user who is there, anew
+  module _ (w : ℕ) (v : User) (hw : user h w .here ≡ true) (hv : v .here ≡ true) where
+    fits : w < length (h .users)
+    fits = here-fits (h .users) w hw
+
+    anew : UserFine (h .rooms) v → v .leads ≡ user h w .leads → (user h w .admin ≡ true → v .admin ≡ true) → People (h .rooms) (set (h .users) w v)
+    anew f l a = put-people (h .users) w v fits (h .rooms) f l (put-admin (h .users) w v fits hv a (R .people .administered w hw)) (R .people)
+
+    -- whose sessions stay
+    keeps : UserFine (h .rooms) v → v .leads ≡ user h w .leads → (user h w .admin ≡ true → v .admin ≡ true)
+        → ((x : Session) → Writing (h .rooms) (user h w) x → Stays (h .rooms) (h .rooms) (user h w) v (x .place)) → Rules (putUser h w v) last
+    keeps f l a s = record {
+      people = anew f l a;
+      seats = seats-put (h .rooms) (h .users) w v fits (h .sessions)
+          (λ x _. session-stays (h .rooms) (h .rooms) (user h w) v x (λ _. hv) (λ _. s x)) (R .seats);
+      texts = R .texts;
+      counter = R .counter;
+    }
+
+  module _ (w room : ℕ) (number : RoomNumber room) (hw : user h w .here ≡ true) where
+    small : room ≤ 31
+    small = omega (arith, number .high)
+
+    -- ---- 03 Join staff
+    pub join-staff : has (h .rooms) room ≡ true → user h w .sort ≡ staff → Rules (putUser h w (joined room (user h w))) last
+    join-staff there is-staff = keeps w (joined room (user h w)) hw hw fine refl (λ k. k) (λ x _. remains x)
+      where
+        fine : UserFine (h .rooms) (joined room (user h w))
+        fine = let f = R .people .each w in record {
+          absent = λ k. clash hw k;
+          sort-known = f .sort-known;
+          label = f .label;
+          joined-there = with-among (user h w .rooms) room small (h .rooms) there (f .joined-there);
+          led-there = f .led-there;
+          admin-staff = f .admin-staff;
+          lead-staff = f .lead-staff;
+          outsider-bare = λ e. absurd (omega arith);
+        }
+
+        remains : (x : Session) → Stays (h .rooms) (h .rooms) (user h w) (joined room (user h w)) (x .place)
+        remains x =
+            let u = user h w in
+            stays (h .rooms) (h .rooms) u (with (u .rooms) room) (u .leads) (x .place) (λ k. k) (with-old (u .rooms) room small (x .place))
+
+    -- ---- 05 Join outsider
+    pub join-outsider : (level c : ℕ) → has (h .rooms) room ≡ true → (user h w .sort ≡ staff → ⊥) → LabelFits level c
+        → Rules (putUser h w (joined room (hired level c (user h w)))) last
+    join-outsider level c there other label = keeps w v hw hw fine refl (λ k. k) remains
+      where
+        v : User
+        v = joined room (hired level c (user h w))
+
+        labelled : (b : Bool) → LabelFits (cond b level (user h w .level)) (cond b c (user h w .categories))
+        labelled true = label
+        labelled false = R .people .each w .label
+
+        fine : UserFine (h .rooms) v
+        fine = let f = R .people .each w in record {
+          absent = λ k. clash hw k;
+          sort-known = omega arith;
+          label = labelled (eqb (user h w .rooms) 0);
+          joined-there = with-among (user h w .rooms) room small (h .rooms) there (f .joined-there);
+          led-there = f .led-there;
+          admin-staff = λ k. absurd (other (f .admin-staff k));
+          lead-staff = λ _. f .lead-staff other;
+          outsider-bare = λ e. absurd (omega arith);
+        }
+
+        -- no staff, so an RW session is in a room that w joined, and the label stays
+        remains : (x : Session) → Writing (h .rooms) (user h w) x → Stays (h .rooms) (h .rooms) (user h w) v (x .place)
+        remains x f =
+            let in-room : has (user h w .rooms) (x .place) ≡ true = f .room-member (λ e. other (f .house-staff e)) in
+            let joined-some : eqb (user h w .rooms) 0 ≡ false = ne-eqb (user h w .rooms) 0 (some (user h w .rooms) (x .place) in-room) in
+            record {
+              there = λ k. k;
+              is-staff = λ e. absurd (other e);
+              member = with-old (user h w .rooms) room small (x .place);
+              same-level = rw joined-some;
+              same-categories = rw joined-some;
+            }
+
+    -- ---- 04, 06 Leave
+    pub leave : Rules (departed h w room) last
+    leave = record {
+      people = anew w v hw hw fine refl (λ k. k);
+      seats = seats-end (h .rooms) (h .rooms) (h .users) (set (h .users) w v) (endsFor w room) remains (h .sessions) (R .seats);
+      texts = R .texts;
+      counter = R .counter;
+    }
+      where
+        v : User
+        v = left room (user h w)
+
+        fine : UserFine (h .rooms) v
+        fine = let f = R .people .each w in record {
+          absent = λ k. clash hw k;
+          sort-known = f .sort-known;
+          label = f .label;
+          joined-there = λ p k. f .joined-there p (without-among (user h w .rooms) room small p k);
+          led-there = f .led-there;
+          admin-staff = f .admin-staff;
+          lead-staff = f .lead-staff;
+          outsider-bare = λ e. let b = f .outsider-bare e in record {
+            level-zero = b .level-zero;
+            categories-zero = b .categories-zero;
+            no-room = rw (b .no-room) (without-zero room);
+          };
+        }
+
+        elsewhere : (x : Session) → endsFor w room x ≡ false → x .owner ≡ w → x .writes ≡ true → x .place ≡ room → ⊥
+        elsewhere x t e k p = clash (rw (k, eq-eqb (x .owner) w e, eq-eqb (x .place) room p)) t
+
+        remains : (x : Session) → endsFor w room x ≡ false → Seated (h .rooms) (h .users) x → Seated (h .rooms) (set (h .users) w v) x
+        remains x t =
+            let u = user h w in
+            seated-put (h .rooms) (h .users) w v (here-fits (h .users) w hw) x
+            (λ e. session-stays (h .rooms) (h .rooms) u v x (λ _. hw)
+            (λ k _. stays (h .rooms) (h .rooms) u (without (u .rooms) room) (u .leads) (x .place) (λ q. q)
+            (λ q. without-other (u .rooms) room small (x .place) (elsewhere x t e k) ∙ q)))
+
+  -- ---- 02 Establish
+  pub establish : (u room : ℕ) → RoomNumber room → user h u .here ≡ true → has (h .rooms) room ≡ false → user h u .admin ≡ true
+      → Rules (putRooms (putUser h u (leading room (user h u))) (with (h .rooms) room)) last
+  establish u room number hu free admin = record {
+    people = record {
+      size = length-set (h .users) u v ∙ R .people .size;
+      numbers = with-among (h .rooms) room small′ 0x1FFFE (number-room room number) (R .people .numbers);
+      each = λ i. at-set noUser (UserFine rooms′) (h .users) u v i fits′ (λ _. fine) (λ _. user-more (h .rooms) rooms′ more (user h i) (R .people .each i));
+      administered = λ i k. put-admin (h .users) u v fits′ hu (λ a. a) (R .people .administered u hu);
+      led = λ r k. led r k (ℕ-discrete r room);
+    };
+    seats = seats-put rooms′ (h .users) u v fits′ (h .sessions) (λ x _. session-stays rooms′ rooms′ (user h u) v x (λ k. k) (λ _ _. remains x))
+        (seats-more (h .rooms) rooms′ more (h .users) (h .sessions) (R .seats));
+    texts = texts-more (h .rooms) rooms′ more last (h .scripts) (h .drafts) (R .texts);
+    counter = R .counter;
+  }
+    where
+      small′ : room ≤ 31
+      small′ = omega (arith, number .high)
+
+      v : User
+      v = leading room (user h u)
+
+      rooms′ : ℕ
+      rooms′ = with (h .rooms) room
+
+      fits′ : u < length (h .users)
+      fits′ = here-fits (h .users) u hu
+
+      more : Among (h .rooms) rooms′
+      more = with-old (h .rooms) room small′
+
+      fine : UserFine rooms′ v
+      fine = let f = R .people .each u in record {
+        absent = λ k. clash hu k;
+        sort-known = f .sort-known;
+        label = f .label;
+        joined-there = λ p k. more p (f .joined-there p k);
+        led-there = with-among (user h u .leads) room small′ rooms′ (with-new (h .rooms) room small′) (λ p k. more p (f .led-there p k));
+        admin-staff = f .admin-staff;
+        lead-staff = λ n. absurd (n (f .admin-staff admin));
+        outsider-bare = f .outsider-bare;
+      }
+
+      remains : (x : Session) → Stays rooms′ rooms′ (user h u) v (x .place)
+      remains x = stays rooms′ rooms′ (user h u) (user h u .rooms) (with (user h u .leads) room) (x .place) (λ k. k) (λ k. k)
+
+      led : (r : ℕ) → has rooms′ r ≡ true → Dec (r ≡ room) → Led (set (h .users) u v) r
+      led r k (no n) =
+          led-move (h .users) (set (h .users) u v) r
+          (λ i. at-set noUser (λ x. has (x .leads) r ≡ has (user h i .leads) r) (h .users) u v i fits′
+          (λ e. rw e (with-other (user h u .leads) room small′ r n)) (λ _. refl))
+          (R .people .led r (sym (with-other (h .rooms) room small′ r n) ∙ k))
+      led r k (yes e) = subst (λ (x : ℕ). Led (set (h .users) u v) x) (sym e) (record {
+        at-place = u;
+        holds = at-set noUser (λ x. has (x .leads) room ≡ true) (h .users) u v u fits′ (λ _. with-new (user h u .leads) room small′) (λ n. absurd (n refl));
+        only = λ j. at-set noUser (λ x. has (x .leads) room ≡ true → j ≡ u) (h .users) u v j fits′
+            (λ q _. q) (λ _ q. clash (R .people .each j .led-there room q) free);
+      })

@@ -1,0 +1,4 @@
+-- What the promises are stated with.
+pub mod Fits
+pub mod Book
+pub mod Events
