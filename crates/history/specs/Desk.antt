@@ -1,5 +1,5 @@
 -- This desk as the machine: its rules, and what its parts show. Also the bytes of an answer.
-use Prim.Native.Nat.{ℕ, _+_}
+use Prim.Native.Nat.{ℕ, _+_, _%_}
 use mathlib.Core.Bool.{cond}
 use mathlib.Core.List.{List, [], _∷_, foldl}
 use lib.Dec.{ltb}
@@ -38,8 +38,8 @@ shown base log current last = record { base = view base; log = past log; current
 abbrev pub settled : House → List Change → House
 settled h l = cond (ltb (length l) 32) h (foldl applied h (take 1 l))
 
--- "80 granted; 81 and four bytes, granted with a draft number (09, 14, 15); C0 plus n, refused with n"
+-- "80 granted; 81 and four bytes, granted with a draft number (09, 14, 15); C0 plus n, refused with n"; the sum is a byte
 abbrev pub answerBytes : Answer → List ℕ
 answerBytes Answer.Granted = 0x80 ∷ []
 answerBytes (Answer.Numbered n) = 0x81 ∷ quadBytes n []
-answerBytes (Answer.Refused n) = (0xC0 + n) ∷ []
+answerBytes (Answer.Refused n) = ((0xC0 + n) % 256) ∷ []

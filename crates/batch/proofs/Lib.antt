@@ -1,0 +1,9 @@
+pub mod Frames
+pub mod Steps
+pub mod Turn
+pub mod Runs
+pub mod Bounds
+pub mod Stops
+pub mod Reading
+pub mod Pieces
+pub mod Calls

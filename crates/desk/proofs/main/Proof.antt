@@ -1,0 +1,13 @@
+-- `main` meets its contract: the desk is opened with the last number 0.
+use borrow.Author.Needs.{needs}
+use mathlib.Core.Path.{refl, sym}
+use Rattle.desk.proofs.main.Statement.{statement}
+use Rattle.desk.proofs.main.Tie as tie
+
+run-requires : tie.Need-run-requires
+run-requires c κs =
+    (c .before .before .before .before .before .before .before .before .before .before .«open» .ensures 0, (refl, sym (c .before .before .before .before .before .before .large-buffer .ensures)))
+
+pub main-spec : {M : Type 1} → statement M
+main-spec =
+    tie.close (tie.spec (λ c κs. search needs) (λ c κs. search needs) (λ c. search needs) (λ c. search needs) run-requires (λ c. search needs))

@@ -1,0 +1,4 @@
+-- What the desk program prints.
+pub mod Lines
+pub mod Printed
+pub mod Pieces

@@ -1,0 +1,48 @@
+-- The line that is printed for an answer. 01: "ordinal (decimal), kind and answer byte (two hex digits), draft number (decimal) or a dash, one space between".
+use Prim.Native.Nat.{ℕ, zero, suc, _+_, _/_, _%_, _^_}
+use mathlib.Core.Path.{_≡_}
+use mathlib.Core.Bool.{cond}
+use mathlib.Core.List.{List, [], _∷_, _++_}
+use lib.Dec.{ltb}
+use lib.ListN.{length, take, getD}
+use Rattle.io.specs.Digits.{digits}
+use Rattle.history.specs.Desk.{answerBytes}
+use Rattle.history.specs.declared.Answer.{Answer}
+use Rattle.history.specs.declared.Answer.the-variants.{Granted, Numbered, Refused}
+
+-- how many decimal digits n has, if these are at most m + 1: one more than the largest k up to m with 10 ^ k ≤ n
+unfoldable pub placesTo : ℕ → ℕ → ℕ
+placesTo zero n = 1
+placesTo (suc m) n = cond (ltb n (10 ^ suc m)) (placesTo m n) (suc (suc m))
+
+-- a number of 64 bits in decimal: at most 20 digits, no zero in front
+unfoldable pub decimal : ℕ → List ℕ
+decimal n = digits 10 (placesTo 19 n) n
+
+-- `0` to `9`, then `A` to `F`
+abbrev pub hexDigit : ℕ → ℕ
+hexDigit d = cond (ltb d 10) (48 + d) (55 + d)
+
+-- two hex digits
+abbrev pub hex : ℕ → List ℕ → List ℕ
+hex n more = hexDigit (n / 16) ∷ hexDigit (n % 16) ∷ more
+
+abbrev pub byteOf : Answer → ℕ
+byteOf a = getD (answerBytes a) 0 0
+
+-- the kind and the answer byte, each with a space before it, and the space after them
+abbrev pub middleOf : ℕ → ℕ → List ℕ
+middleOf kind byte = 32 ∷ hex kind (32 ∷ hex byte (32 ∷ []))
+
+abbrev pub numberOf : Answer → List ℕ
+numberOf Granted = 45 ∷ []
+numberOf (Numbered n) = decimal n
+numberOf (Refused n) = 45 ∷ []
+
+unfoldable pub lineOf : ℕ → ℕ → Answer → List ℕ
+lineOf ordinal kind answer = decimal ordinal ++ middleOf kind (byteOf answer) ++ numberOf answer ++ (10 ∷ [])
+
+-- a text was put behind the first `at` bytes, and now ends at `next`
+pub record Put (before : List ℕ) (at : ℕ) (text : List ℕ) (next : ℕ) (after : List ℕ) : Type 0 where
+  pub ends : next ≡ at + length text
+  pub is : take next after ≡ take at before ++ text

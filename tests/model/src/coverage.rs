@@ -1,0 +1,305 @@
+// What a set of runs reached: pairs of kind and answer, clauses of the rows, and events worth a name.
+
+use crate::desk::*;
+use crate::generate::generate;
+use crate::request::{frame, Frame, Request, KINDS};
+use std::collections::{BTreeMap, BTreeSet};
+
+/// The answers that 01's tables allow a whole request of the kind, as bytes.
+fn allowed(kind: u8) -> Vec<u8> {
+    let refusals: &[u8] = match kind {
+        0x01 | 0x02 => &[3, 4, 5, 6],
+        0x03..=0x06 => &[3, 4, 6, 7, 8],
+        0x07 | 0x08 | 0x0A => &[3, 4, 6, 8],
+        0x09 => &[3, 4, 6, 8, 9, 10, 11],
+        0x0B | 0x16 => &[3, 4, 6],
+        0x10 => &[3, 4, 5, 8, 9],
+        0x11 => &[3, 4, 5, 7, 9],
+        0x12 => &[3, 4, 5, 9],
+        0x13 => &[3, 4, 8, 9],
+        0x14 => &[3, 4, 7, 8, 9, 10, 11],
+        0x15 => &[3, 4, 5, 7, 10, 11],
+        0x20 => &[3, 4, 6, 12],
+        _ => unreachable!("KINDS are known"),
+    };
+    let granted = if matches!(kind, 0x09 | 0x14 | 0x15) { 0x81 } else { 0x80 };
+    std::iter::once(granted).chain(refusals.iter().map(|n| 0xC0 + n)).collect()
+}
+
+/// Clauses that share a pair with others, so that the pair alone would not show them.
+const CLAUSES: [(u8, &str); 62] = [
+    (0x01, "user over 63"),
+    (0x01, "level over 7"),
+    (0x01, "sort not 0 or 2"),
+    (0x01, "admin not 0 or 1"),
+    (0x01, "sort 2 with level"),
+    (0x01, "sort 2 with categories"),
+    (0x01, "sort 2 with admin"),
+    (0x01, "empty desk: u not new"),
+    (0x01, "empty desk: not staff"),
+    (0x01, "empty desk: not administrator"),
+    (0x01, "no house administrator"),
+    (0x02, "user over 63"),
+    (0x02, "room not 1..16"),
+    (0x03, "no such user"),
+    (0x03, "no such w"),
+    (0x03, "no such room"),
+    (0x04, "no such w"),
+    (0x05, "level over 7"),
+    (0x05, "room not 1..16"),
+    (0x05, "no such w"),
+    (0x06, "no such w"),
+    (0x07, "house not among the places"),
+    (0x07, "room among the places"),
+    (0x07, "no such script"),
+    (0x07, "no such draft"),
+    (0x07, "draft of another script"),
+    (0x07, "script over 63"),
+    (0x08, "no such draft"),
+    (0x08, "draft of another script"),
+    (0x09, "no such script"),
+    (0x09, "no such script2"),
+    (0x09, "no such draft"),
+    (0x09, "draft of another script"),
+    (0x09, "script over 63"),
+    (0x09, "origin of script1 not the room"),
+    (0x09, "origin of script2 not the house"),
+    (0x09, "levels differ"),
+    (0x09, "categories differ"),
+    (0x0A, "room not among the places"),
+    (0x0A, "origin not house"),
+    (0x0A, "draft of another script"),
+    (0x10, "session over 63"),
+    (0x10, "level over 7"),
+    (0x10, "no such room"),
+    (0x10, "above the owner's level"),
+    (0x10, "more categories than the owner"),
+    (0x11, "above the owner's level"),
+    (0x11, "more categories than the owner"),
+    (0x12, "above the owner's level"),
+    (0x12, "more categories than the owner"),
+    (0x13, "no such session"),
+    (0x13, "no such script"),
+    (0x13, "no such draft"),
+    (0x13, "draft of another script"),
+    (0x13, "RW: place not among them"),
+    (0x13, "RO: no place shared"),
+    (0x14, "draft of another script"),
+    (0x14, "levels differ"),
+    (0x14, "categories differ"),
+    (0x16, "neither owns; RO has no room"),
+    (0x16, "neither owns; house has no lead"),
+    (0x16, "neither owns nor leads its room"),
+];
+
+const EVENTS: [&str; 17] = [
+    "the 256th live draft",
+    "a draft after one of 256 was deleted",
+    "32 take-backs in a row, the 33rd refused with 12",
+    "the desk emptied by take-backs",
+    "a freelancer out of every room joins again",
+    "a freelancer joins a second room",
+    "a room established again after Disband",
+    "a script number used again",
+    "Merge with the house already among the places",
+    "Remove deletes a draft, its script stays",
+    "Remove deletes a draft and its script",
+    "Disband deletes a draft of a house script",
+    "Disband ends a session and leaves an RO session of its owner",
+    "a lead leaves as a member",
+    "a lead kills another's session",
+    "a taken-back request had ended a session",
+    "an administrator takes back his own enrolment",
+];
+
+#[derive(Default)]
+pub struct Coverage {
+    pairs: BTreeMap<(u8, u8), usize>,
+    clauses: BTreeMap<(u8, &'static str), usize>,
+    events: BTreeMap<&'static str, usize>,
+    taken_back: BTreeMap<u8, usize>,
+    requests: usize,
+    granted: usize,
+}
+
+impl Coverage {
+    fn event(&mut self, name: &'static str) {
+        debug_assert!(EVENTS.contains(&name));
+        *self.events.entry(name).or_default() += 1;
+    }
+
+    fn run(&mut self, bytes: &[u8], opened: u32) {
+        let mut desk = Desk::open(opened);
+        let mut at = 0;
+        let mut in_a_row = 0;
+        let mut was_full = false;
+        let mut disbanded = BTreeSet::new();
+        let mut scripts_seen = BTreeSet::new();
+        loop {
+            let (request, length) = match frame(&bytes[at..]) {
+                Frame::End => return,
+                Frame::Unknown(kind) | Frame::Cut(kind) => {
+                    let byte = if crate::request::body_length(kind).is_none() { 0xC1 } else { 0xC2 };
+                    *self.pairs.entry((kind, byte)).or_default() += 1;
+                    self.requests += 1;
+                    return;
+                }
+                Frame::Whole(request, length) => (request, length),
+            };
+            at += length;
+            let before = desk.house.clone();
+            let undone = desk.changes.last().map(|c| c.request);
+            let answer = desk.answer(&request);
+            self.requests += 1;
+            self.granted += answer.granted() as usize;
+            *self.pairs.entry((request.kind(), answer.byte())).or_default() += 1;
+            if let Answer::Refused(n, clause) = answer {
+                *self.clauses.entry((request.kind(), clause)).or_default() += 1;
+                if n == 12 && in_a_row >= 32 {
+                    self.event("32 take-backs in a row, the 33rd refused with 12");
+                }
+                continue;
+            }
+            in_a_row = if matches!(request, Request::TakeBack { .. }) { in_a_row + 1 } else { 0 };
+            self.observe(&before, &desk.house, &request, undone);
+            match request {
+                Request::Disband { room, .. } => {
+                    disbanded.insert(room);
+                }
+                Request::Establish { room, .. } if disbanded.contains(&room) => {
+                    self.event("a room established again after Disband")
+                }
+                Request::Create { script, .. } if !scripts_seen.insert(script) => {
+                    self.event("a script number used again")
+                }
+                _ => {}
+            }
+            if desk.house.drafts.len() == MOST_DRAFTS && issues(&request) {
+                self.event("the 256th live draft");
+                if was_full {
+                    self.event("a draft after one of 256 was deleted");
+                }
+                was_full = true;
+            }
+        }
+    }
+
+    fn observe(&mut self, before: &House, after: &House, request: &Request, undone: Option<Request>) {
+        match *request {
+            Request::TakeBack { u } => {
+                let undone = undone.expect("granted");
+                *self.taken_back.entry(undone.kind()).or_default() += 1;
+                if after.users.is_empty() {
+                    self.event("the desk emptied by take-backs");
+                }
+                if matches!(undone, Request::Enrol { new, .. } if new == u) {
+                    self.event("an administrator takes back his own enrolment");
+                }
+                if after.sessions.keys().any(|s| !before.sessions.contains_key(s)) {
+                    self.event("a taken-back request had ended a session");
+                }
+            }
+            Request::JoinOutsider { w, .. } if before.users[&w].sort == FREELANCER => {
+                if before.users[&w].joined.is_empty() {
+                    self.event("a freelancer out of every room joins again");
+                } else {
+                    self.event("a freelancer joins a second room");
+                }
+            }
+            Request::LeaveStaff { w, room, .. } if before.users[&w].led.contains(&room) => {
+                self.event("a lead leaves as a member")
+            }
+            Request::Merge { v, .. } if before.drafts[&v].places.contains(&HOUSE) => {
+                self.event("Merge with the house already among the places")
+            }
+            Request::Remove { script, v, .. } if !after.drafts.contains_key(&v) => {
+                if after.scripts.contains_key(&script) {
+                    self.event("Remove deletes a draft, its script stays");
+                } else {
+                    self.event("Remove deletes a draft and its script");
+                }
+            }
+            Request::Disband { .. } => {
+                let of_house = |d: &Draft| before.scripts[&d.script].origin == HOUSE;
+                if before.drafts.iter().any(|(v, d)| of_house(d) && !after.drafts.contains_key(v)) {
+                    self.event("Disband deletes a draft of a house script");
+                }
+                let ended: Vec<_> =
+                    before.sessions.iter().filter(|(n, _)| !after.sessions.contains_key(n)).collect();
+                let ro = |owner: u8| after.sessions.values().any(|s| s.owner == owner && s.place.is_none());
+                if ended.iter().any(|(_, s)| ro(s.owner)) {
+                    self.event("Disband ends a session and leaves an RO session of its owner");
+                }
+            }
+            Request::Kill { u, s } if before.sessions[&s].owner != u => {
+                self.event("a lead kills another's session")
+            }
+            _ => {}
+        }
+    }
+}
+
+/// Prints what the seeds reach; true when nothing is missing and at least half is granted.
+pub fn report(seeds: &[u64], count: usize) -> bool {
+    let mut all = Coverage::default();
+    for seed in seeds {
+        all.run(&generate(*seed, count, 0), 0);
+    }
+    let (requests, granted) = (all.requests, all.granted);
+    // Refusal 11 needs an opening near the top; the program opens with 0, so these runs are the model's own.
+    let mut near = Coverage::default();
+    for seed in seeds.iter().take(40) {
+        let opened = u32::MAX - (seed % 80) as u32;
+        near.run(&generate(*seed, count, opened), opened);
+    }
+    let mut missing = Vec::new();
+    for kind in KINDS {
+        let mut line = format!("{kind:02X}");
+        for byte in allowed(kind) {
+            let from = if byte == 0xCB { &near } else { &all };
+            let times = from.pairs.get(&(kind, byte)).copied().unwrap_or(0);
+            line += &format!(" {byte:02X}:{times}");
+            if times == 0 {
+                missing.push(format!("{kind:02X} {byte:02X}"));
+            }
+        }
+        println!("{line}");
+    }
+    for ((kind, byte), _) in all.pairs.iter().chain(&near.pairs) {
+        if KINDS.contains(kind) && *byte != 0xC2 && !allowed(*kind).contains(byte) {
+            missing.push(format!("{kind:02X} {byte:02X} is outside the tables"));
+        }
+    }
+    for byte in [0xC1, 0xC2] {
+        let times: usize = all.pairs.iter().filter(|((_, b), _)| *b == byte).map(|(_, n)| n).sum();
+        println!("{byte:02X}:{times}");
+        if times == 0 {
+            missing.push(format!("{byte:02X}"));
+        }
+    }
+    for (kind, clause) in CLAUSES {
+        if !all.clauses.contains_key(&(kind, clause)) {
+            missing.push(format!("{kind:02X} {clause}"));
+        }
+    }
+    for event in EVENTS {
+        let times = all.events.get(event).copied().unwrap_or(0);
+        println!("{times} {event}");
+        if times == 0 {
+            missing.push(event.into());
+        }
+    }
+    for kind in KINDS.iter().filter(|k| !matches!(k, 0x13 | 0x20)) {
+        if !all.taken_back.contains_key(kind) {
+            missing.push(format!("{kind:02X} taken back"));
+        }
+    }
+    println!("{requests} requests, {granted} granted, {} clauses", all.clauses.len());
+    if 2 * granted < requests {
+        missing.push("half of the requests granted".into());
+    }
+    for name in &missing {
+        println!("missing: {name}");
+    }
+    missing.is_empty()
+}

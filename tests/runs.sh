@@ -1,0 +1,69 @@
+#!/bin/sh
+# Compares the program's lines with the stored runs of tests/runs.
+# runs.sh [PROGRAM [NAME..]]: another program, or some runs alone; DESK also names the program.
+set -eu
+root=$(cd "$(dirname "$0")/.." && pwd)
+desk=${1:-${DESK:-$root/desk}}
+[ $# -eq 0 ] || shift
+[ -x "$desk" ] || { echo "runs.sh: no program at $desk" >&2; exit 1; }
+work=$(mktemp -d)
+trap 'rm -rf "$work"' EXIT
+trap 'exit 1' HUP INT TERM
+
+# Once before all: a program that can't start, or builds itself first, is found here and not in every run.
+"$desk" < /dev/null > "$work/got" || { echo "runs.sh: $desk does not run" >&2; exit 1; }
+
+# Hex without comments, one request a line.
+plain() {
+    sed -e 's/#.*//' -e 's/[[:space:]]//g' -e '/^$/d' "$1"
+}
+
+# Hex to bytes by octal escapes, which printf takes everywhere; a stray letter ends it.
+bytes() {
+    awk 'BEGIN { digits = "0123456789ABCDEF" }
+        {
+            hex = toupper($0)
+            if (length(hex) % 2) { print "odd hex: " $0 > "/dev/stderr"; exit 1 }
+            for (i = 1; i <= length(hex); i += 2) {
+                high = index(digits, substr(hex, i, 1))
+                low = index(digits, substr(hex, i + 1, 1))
+                if (!high || !low) { print "bad hex: " $0 > "/dev/stderr"; exit 1 }
+                printf "\\%03o", 16 * (high - 1) + low - 1
+            }
+            print ""
+        }' > "$work/octal"
+    while IFS= read -r line; do
+        printf "$line"
+    done < "$work/octal"
+}
+
+if [ $# -eq 0 ]; then
+    for file in "$root"/tests/runs/*.hex; do
+        name=${file##*/}
+        set -- "$@" "${name%.hex}"
+    done
+fi
+failed=0
+total=0
+for name in "$@"; do
+    expected=$root/tests/runs/$name.out
+    plain "$root/tests/runs/$name.hex" > "$work/hex"
+    bytes < "$work/hex" > "$work/run"
+    status=0
+    "$desk" < "$work/run" > "$work/got" || status=$?
+    if cmp -s "$expected" "$work/got" && [ "$status" = 0 ]; then
+        total=$((total + $(wc -l < "$expected")))
+        continue
+    fi
+    failed=$((failed + 1))
+    ordinal=$(awk -v other="$work/got" '
+        { if ((getline line < other) <= 0) line = "(nothing)" }
+        line != $0 { print NR; found = 1; exit }
+        END { if (!found) print NR + 1 }' "$expected")
+    echo "run $name, request $ordinal differs: $(sed -n "${ordinal}p" "$work/hex")"
+    echo "  expected: $(sed -n "${ordinal}p" "$expected")"
+    echo "  program:  $(sed -n "${ordinal}p" "$work/got")"
+    [ "$status" = 0 ] || echo "  the program ended with $status"
+done
+[ "$failed" = 0 ] || { echo "$failed of $# runs differ"; exit 1; }
+echo "$# runs, $total lines, no difference"
