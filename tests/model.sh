@@ -12,7 +12,8 @@ runs=${RUNS:-210}
 "$desk" < /dev/null > /dev/null || { echo "model.sh: $desk does not run" >&2; exit 1; }
 if ! command -v rustc >/dev/null 2>&1; then
     if [ "$(id -u)" = 0 ] && command -v apt-get >/dev/null 2>&1; then
-        apt-get install -y rustc >/dev/null 2>&1 || true
+        echo "model.sh: installing rustc" >&2
+        apt-get update >/dev/null 2>&1 && apt-get install -y rustc >/dev/null 2>&1 || true
     fi
     command -v rustc >/dev/null 2>&1 || { echo "model.sh: rustc is missing; apt-get install -y rustc" >&2; exit 1; }
 fi
