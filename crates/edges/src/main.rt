@@ -1,8 +1,14 @@
-// Edges of the batch: its four stops on both sides, run and compared. A line a case: its name, the stop, the request bytes used, the answer bytes
-// written, the last number then, and the first sixteen bytes of the answer buffer, which holds ee wherever nothing was written.
-ghost use Prim.Native.Nat.{_≤_};
+// Any batch, run and compared. Standard input has a line a case, `NAME LAST ROOM PLACE REQUESTS`: a desk is opened with the last number LAST, or goes on as
+// the case before left it where that is `+`; ROOM bytes of answer room, each ee; the place the answers start at; the requests in hex, with `_` between them.
+// The line written has the name, the stop, the request bytes used, the answer bytes written, the last number then, and every byte of the answer room.
+ghost use Prim.Native.Nat.{_<_, _≤_};
+ghost use lib.ListN.{length};
+use libc::STDIN_FILENO;
 use libc::STDOUT_FILENO;
+use log::Log;
+use records::Cells;
 
+// ---- what is written
 fn say(text: &[u8]) {
     io::write_all(STDOUT_FILENO, text);
 }
@@ -16,92 +22,210 @@ fn byte(b: u8) {
     io::print_hex(STDOUT_FILENO, b as u64, 2);
 }
 
-fn bytes(answers: [u8; 16]) {
-    'bytes: for i in 0..16 {
+fn bytes(answers: &[u8]) {
+    for i in 0..answers.len() {
         byte(answers[i]);
     }
 }
 
-fn at_most(room: usize) -> usize
-    ensures { λ r. ⌜ r ≤ 16 ⌝ }
-{
-    if room < 16 { room } else { 16 }
+fn answer_room(answers: &[u8]) {
+    say(b" ");
+    if answers.len() == 0 {
+        say(b"-");
+        return;
+    }
+    bytes(answers);
 }
 
-// A desk just opened, so many bytes of answer room, and the place where the answers start.
-fn case(name: &[u8], last: u32, requests: &[u8], room: usize, place: usize) {
-    let mut answers = [0xEEu8; 16];
-    let size = at_most(room);
-    let ran = batch::run_desk(history::open(), last, requests, &mut answers[..size], place);
-    say(name);
-    let report = ran.ran;
-    let stop = report.stop;
+// ---- what is read
+// The first place from `from` on that has this mark, or the end of the text.
+fn end_at(text: &[u8], from: usize, mark: u8) -> usize
+    requires { ⌜ from ≤ length (now text) ⌝ }
+    ensures { λ r. ⌜ (from ≤ r) × (r ≤ length (now (text .entry))) ⌝ }
+{
+    let mut i = from;
+    while i < text.len() {
+        if text[i] == mark {
+            return i;
+        }
+        i += 1;
+    }
+    i
+}
+
+// A line's first field.
+fn first(line: &[u8]) -> &[u8] {
+    let end = end_at(line, 0, b' ');
+    &line[..end]
+}
+
+// The fields behind the first.
+fn behind(line: &[u8]) -> &[u8] {
+    let end = end_at(line, 0, b' ');
+    if end < line.len() {
+        return &line[end + 1..];
+    }
+    &line[end..]
+}
+
+fn starts(text: &[u8], mark: u8) -> bool {
+    if text.len() == 0 {
+        return false;
+    }
+    text[0] == mark
+}
+
+// A number that has no room for one more digit stays.
+fn with_digit(n: u64, digit: u8) -> u64 {
+    if n < 1_000_000_000_000_000_000 {
+        return n * 10 + (digit % 16) as u64;
+    }
+    n
+}
+
+fn decimal(word: &[u8]) -> u64 {
+    let mut n: u64 = 0;
+    for i in 0..word.len() {
+        n = with_digit(n, word[i]);
+    }
+    n
+}
+
+fn at_most(room: u64) -> usize
+    ensures { λ r. ⌜ r ≤ 4096 ⌝ }
+{
+    if room < 4096 { room as usize } else { 4096 }
+}
+
+fn value(digit: u8) -> u8
+    ensures { λ r. ⌜ r < 16 ⌝ }
+{
+    if digit < 58 {
+        return digit % 16; // 0 to 9
+    }
+    (digit % 16 + 9) % 16 // A to F, a to f
+}
+
+// Puts a digit behind those there are, and says how many they are then; `_` is none.
+fn put_digit(out: &mut [u8], digits: usize, digit: u8) -> usize
+    requires { ⌜ digits ≤ 8192 ⌝ }
+    ensures { λ r. ⌜ r ≤ 8192 ⌝ }
+{
+    let at = digits / 2;
+    if digit == b'_' {
+        return digits;
+    }
+    if 8191 < digits {
+        return digits;
+    }
+    if out.len() <= at {
+        return digits;
+    }
+    out[at] = out[at] % 16 * 16 + value(digit);
+    digits + 1
+}
+
+// Puts the bytes that a word shows in hex, and says how many they are.
+fn hex(word: &[u8], out: &mut [u8]) -> usize
+    ensures { λ r. ⌜ r ≤ 4096 ⌝ }
+{
+    let mut digits: usize = 0;
+    for i in 0..word.len() {
+        digits = put_digit(out, digits, word[i]);
+    }
+    digits / 2
+}
+
+// ---- a case
+// The field LAST: a desk opened with that number. A `+` leaves the desk as it is.
+fn open_anew(word: &[u8], base: &mut Cells, log: &mut Log, current: &mut Cells, last: &mut u32) {
+    if starts(word, b'+') {
+        return;
+    }
+    let desk = history::open();
+    let empty = desk.base;
+    let none = desk.log;
+    let same = desk.current;
+    *base = empty;
+    *log = none;
+    *current = same;
+    *last = (decimal(word) % 4_294_967_296) as u32;
+}
+
+// Runs the batch, and writes what it left.
+fn run_batch(
+    base: &mut Cells,
+    log: &mut Log,
+    current: &mut Cells,
+    last: &mut u32,
+    requests: &[u8],
+    answers: &mut [u8],
+    place: usize,
+) {
+    let ran = batch::run(base, log, current, last, requests, answers, place);
+    let stop = ran.stop;
     number(batch::stop_number(stop) as u64);
-    number(report.used as u64);
-    number(report.written as u64);
-    number(ran.last as u64);
-    say(b" ");
-    bytes(answers);
+    number(ran.used as u64);
+    number(ran.written as u64);
+    number(*last as u64);
+    answer_room(answers);
+}
+
+// The fields ROOM, PLACE and REQUESTS. Of more than 4,096 bytes the first are taken.
+fn run_fields(fields: &[u8], base: &mut Cells, log: &mut Log, current: &mut Cells, last: &mut u32) {
+    let behind_room = behind(fields);
+    let mut requests = [0u8; 4096];
+    let n = hex(first(behind(behind_room)), &mut requests);
+    let mut answers = [0xEEu8; 4096];
+    let size = at_most(decimal(first(fields)));
+    let place = decimal(first(behind_room)) as usize;
+    run_batch(
+        base,
+        log,
+        current,
+        last,
+        &requests[..n],
+        &mut answers[..size],
+        place,
+    );
+}
+
+// An empty line, and one that starts with `#`, is no case.
+fn case(line: &[u8], base: &mut Cells, log: &mut Log, current: &mut Cells, last: &mut u32) {
+    if line.len() == 0 {
+        return;
+    }
+    if starts(line, b'#') {
+        return;
+    }
+    let behind_name = behind(line);
+    open_anew(first(behind_name), base, log, current, last);
+    say(first(line));
+    run_fields(behind(behind_name), base, log, current, last);
     say(b"\n");
 }
 
-// "no bytes left (stop 0)" comes first, wherever the place is.
-fn nothing_to_do() {
-    case(b"no-bytes", 0, b"", 16, 0);
-    case(b"no-bytes-no-room", 0, b"", 0, 0);
-    case(b"no-bytes-beyond", 0, b"", 16, 99);
+// The desk's parts are lent to each case, so that no table is copied.
+fn cases(input: &[u8]) {
+    let mut base = [0u32; 1858];
+    let mut log = [0u8; 418];
+    let mut current = [0u32; 1858];
+    let mut last: u32 = 0;
+    let mut at: usize = 0;
+    while at < input.len() {
+        let end = end_at(input, at, b'\n');
+        case(
+            &input[at..end],
+            &mut base,
+            &mut log,
+            &mut current,
+            &mut last,
+        );
+        at = end + 1;
+    }
 }
 
-// "under 5 answer bytes left, or the place beyond the buffer (stop 13)" comes before the kind.
-fn room() {
-    case(b"five-left", 0, b"\x02\x00\x01", 5, 0);
-    case(b"four-left", 0, b"\x02\x00\x01", 4, 0);
-    case(b"five-behind-place", 0, b"\x02\x00\x01", 16, 11);
-    case(b"four-behind-place", 0, b"\x02\x00\x01", 16, 12);
-    case(b"place-at-end", 0, b"\x02\x00\x01", 16, 16);
-    case(b"place-beyond", 0, b"\x02\x00\x01", 16, 17);
-    case(b"no-room-unknown", 0, b"\xFF", 4, 0);
-    case(b"no-room-cut", 0, b"\x02", 4, 0);
-}
-
-// "unknown kind or cut body (C1 or C2 is written; stop 1 or 2; that request's bytes count as unused)"
-fn frames() {
-    case(b"unknown", 0, b"\x02\x00\x01\x0C\x02\x00\x01", 16, 3);
-    case(b"cut", 0, b"\x02\x00\x01\x02\x00", 16, 3);
-    case(
-        b"room-in-the-middle",
-        0,
-        b"\x02\x00\x01\x02\x00\x01\x02\x00\x01",
-        6,
-        0,
-    );
-}
-
-// Opened with the last number but one: an administrator, a house session, two scripts.
-fn last_number() {
-    case(
-        b"last-number",
-        4294967294,
-        b"\x01\x00\x00\x00\x05\x00\x03\x01\x11\x00\x00\x02\x00\x01\x15\x00\x00\x15\x00\x01",
-        16,
-        0,
-    );
-    case(
-        b"no-number",
-        4294967295,
-        b"\x01\x00\x00\x00\x05\x00\x03\x01\x11\x00\x00\x02\x00\x01\x15\x00\x00",
-        16,
-        0,
-    );
-    case(
-        b"first-number",
-        0,
-        b"\x01\x00\x00\x00\x05\x00\x03\x01\x11\x00\x00\x02\x00\x01\x15\x00\x00",
-        16,
-        0,
-    );
-}
-
+// ---- every kind
 // The stop of a batch over these bytes, 0 to 13.
 fn stop_of(requests: &[u8]) -> u8 {
     let mut answers = [0u8; 5];
@@ -164,9 +288,8 @@ fn every_kind() {
 }
 
 fn main() {
-    nothing_to_do();
-    room();
-    frames();
-    last_number();
+    let mut input = io::large_buffer();
+    let n = io::read_full(STDIN_FILENO, &mut input);
+    cases(&input[..n]);
     every_kind();
 }

@@ -7,7 +7,9 @@ use native.Mathlib.Numerals.{add-one}
 use native.Mathlib.Nat.{add-zero, zero-add, add-suc, suc-add}
 use native.Mathlib.Omega.{arith}
 use lib.ListN.{length, take, drop, getD, set, length-set, drop-of-length-le}
-use lib.Seq.{take-suc, drop-cons, set-at, getD-at, length-take-le, take-all, take-suc-set, drop-set-lt, getD-drop, drop-drop}
+use lib.Dec.{eqb}
+use borrow.Author.Tests.{eqb-true, eqb-false, ne-eqb}
+use lib.Seq.{getD-set-same, getD-set-other, take-suc, drop-cons, set-at, getD-at, length-take-le, take-all, take-suc-set, drop-set-lt, getD-drop, drop-drop}
 use Rattle.records.specs.Lists.{any, keep, mapFrom}
 
 -- ---- a map in place: the first i elements are done
@@ -105,10 +107,44 @@ module _ {A : Type 0} (p : A → Bool) where
     pub moved-all : (i n : ℕ) (a : List A) → MovedUp p l i n a → length l ≤ i → take n a ≡ keep p l
     moved-all i n a m h = m .front ∙ rw (take-all i l h)
 
--- ---- a search: what is left to look through from place i on
-module _ {A : Type 0} (p : A → Bool) (l : List A) (i : ℕ) where
-  pub any-more : (d : A) → i < length l → any p (drop i l) ≡ (p (getD l i d) || any p (drop (i + 1) l))
-  any-more d h = rw (drop-cons l i d h, add-one)
+or-true : (b : Bool) → (b || true) ≡ true
+or-true true = refl
+or-true false = refl
 
-  pub any-none : length l ≤ i → any p (drop i l) ≡ false
-  any-none h = rw (drop-of-length-le l h)
+or-false : (b : Bool) → (b || false) ≡ b
+or-false true = refl
+or-false false = refl
+
+-- ---- marks at the keys of the elements passed: of i elements of l each has marked the place of its key, below n
+pub record Marked {A : Type 0} (key : A → ℕ) (n : ℕ) (l : List A) (i : ℕ) (m : List Bool) : Type 0 where
+  pub size : length m ≡ n
+  pub marks : (k : ℕ) → k < n → (getD m k false || any (λ x. eqb (key x) k) (drop i l)) ≡ any (λ x. eqb (key x) k) l
+
+module _ {A : Type 0} (key : A → ℕ) (n : ℕ) (l : List A) where
+  pub none-marked : (m : List Bool) → length m ≡ n → ((k : ℕ) → k < n → getD m k false ≡ false) → Marked key n l 0 m
+  none-marked m z f = record { size = z; marks = λ k h. rw (f k h) }
+
+  module _ (i : ℕ) (m : List Bool) (d : A) (h : i < length l) (before : Marked key n l i m) where
+    further : (k : ℕ) → any (λ x. eqb (key x) k) (drop i l) ≡ (eqb (key (getD l i d)) k || any (λ x. eqb (key x) k) (drop (i + 1) l))
+    further k = rw (drop-cons l i d h, add-one)
+
+    -- a key that has no place
+    pub marked-beyond : n ≤ key (getD l i d) → Marked key n l (i + 1) m
+    marked-beyond e = record {
+      size = before .size;
+      marks = λ k b. rw (further k, ne-eqb (key (getD l i d)) k (λ q. omega arith)) at (before .marks k b);
+    }
+
+    pub marked-more : (x : ℕ) → x ≡ key (getD l i d) → x < n → Marked key n l (i + 1) (set m x true)
+    marked-more x e below = record { size = length-set m x true ∙ before .size; marks = λ k b. go k (eqb x k) refl (rw (further k, ← e) at (before .marks k b)) }
+      where
+        go : (k : ℕ) (t : Bool) → eqb x k ≡ t → (getD m k false || (eqb x k || any (λ x. eqb (key x) k) (drop (i + 1) l))) ≡ any (λ x. eqb (key x) k) l
+            → (getD (set m x true) k false || any (λ x. eqb (key x) k) (drop (i + 1) l)) ≡ any (λ x. eqb (key x) k) l
+        go k true q is =
+            let same : x ≡ k = eqb-true x k q in
+            let there : getD (set m x true) k false ≡ true = ap (λ (j : ℕ). getD (set m x true) j false) (sym same) ∙ getD-set-same m x true false (omega (arith, before .size)) in
+            rw there (sym (or-true (getD m k false)) ∙ (rw q at is))
+        go k false q is = rw (getD-set-other m x k true false (λ z. eqb-false x k q (sym z))) (rw q at is)
+
+  pub marked-all : (i : ℕ) (m : List Bool) → length l ≤ i → Marked key n l i m → (k : ℕ) → k < n → getD m k false ≡ any (λ x. eqb (key x) k) l
+  marked-all i m h done k b = sym (or-false (getD m k false)) ∙ (rw (drop-of-length-le l h) at (done .marks k b))

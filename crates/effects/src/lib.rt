@@ -1,7 +1,9 @@
 // The effect of each granted request on the records: one function a kind of effect, and `apply` over all kinds.
 ghost use mathlib.Core.Path.{_≡_};
 ghost use mathlib.Core.List.{map};
-ghost use Prim.Native.Nat.{_<_};
+ghost use Prim.Native.Nat.{ℕ, _<_};
+ghost use mathlib.Core.Bool.{false};
+ghost use lib.ListN.{getD};
 ghost use Rattle.records.specs.Lists.{any};
 ghost use Rattle.records.specs.House.{House, view, user, session, putUser, putRooms, putScript, putSession, addDraft, noSession, withUsers, withScripts, withSessions, withDrafts};
 ghost use Rattle.records.specs.Places.{with, without, only};
@@ -243,19 +245,21 @@ pub fn add_place(records: &mut Cells, script: u8, number: u32, place: u8)
     records::put_draft(records, i, placed_at(draft, place as u32));
 }
 
-fn has_draft(records: &Cells, script: usize) -> bool
-    requires { ⌜ script < 64 ⌝ }
-    ensures { λ r. ⌜ r ≡ any (ofScript script) (view (now (records .entry)) .drafts) ⌝ }
+// Which scripts have a draft, each at its id: one pass over the drafts, not one a script.
+fn drafted(records: &Cells) -> [bool; 64]
+    ensures { λ r. ⌜ ((script : ℕ) → script < 64 → getD r script false ≡ any (ofScript script) (view (now (records .entry)) .drafts)) ⌝ }
 {
-    let id = script as u32;
+    let mut found = [false; 64];
     let end = records::draft_count(records);
     'drafts: for i in 0..end {
         let draft = records::draft_at(records, i);
-        if draft.script == id {
-            return true;
+        let script = draft.script as usize;
+        if 63 < script {
+            continue 'drafts;
         }
+        found[script] = true;
     }
-    false
+    found
 }
 
 // The drafts that have a place move up into the room of those that have none.
@@ -278,12 +282,13 @@ fn sweep_drafts(records: &mut Cells)
 fn sweep_scripts(records: &mut Cells)
     ensures { λ _. ⌜ view (now (records .exit)) ≡ withScripts (view (now (records .entry))) (sweptScripts (view (now (records .entry)) .drafts) (view (now (records .entry)) .scripts)) ⌝ }
 {
+    let found = drafted(records);
     'scripts: for i in 0..64 {
         let script = records::script_at(records, i);
         if !script.here {
             continue 'scripts;
         }
-        if has_draft(records, i) {
+        if found[i] {
             continue 'scripts;
         }
         records::put_script(records, i, records::no_script());

@@ -9,12 +9,12 @@ use lib.Seq.{getD-set-same, getD-set-other, ext-getD, getD-take, getD-drop, getD
 use Rattle.records.specs.Tables.{Table, at, putAt, tabulate}
 use Rattle.records.proofs.Tables.{Laid, length-tabulate, getD-tabulate, length-puts, same-put, put-here, put-other, same-set}
 use Rattle.request.specs.Bytes.{_#_, quad}
-use Rattle.request.specs.Reading.{frameOf}
+use Rattle.request.specs.Reading.{requestOf}
 use Rattle.request.specs.Writing.{framed}
 use Rattle.request.specs.declared.Request.{Request}
-use Rattle.request.proofs.RoundTrip.{framed-is-read, framed-length, quad-forth}
+use Rattle.request.proofs.RoundTrip.{framed-length, framed-makes, quad-forth}
 use Rattle.effects.specs.declared.Change.{Change}
-use Rattle.log.specs.Log.{changeTable, past, noChange, requestIn, pushed, popped}
+use Rattle.log.specs.Log.{changeTable, past, noChange, pushed, popped}
 
 -- ---- a change and its 13 bytes
 spelt : (l : List ℕ) → tabulate (length l) (λ i. l # i) ≡ l
@@ -29,14 +29,13 @@ nine l z = ap (λ (n : ℕ). tabulate n (λ i. l # i)) (sym z) ∙ spelt l
 -- a change is what its own bytes say
 said : (q : Request) (n : ℕ) → changeTable .of (λ k. changeTable .cells (record { request = q; number = n }) # k) ≡ record { request = q; number = n }
 said q n =
-    let read : requestIn (frameOf (framed q # 0 ∷ framed q # 1 ∷ framed q # 2 ∷ framed q # 3 ∷ framed q # 4 ∷ framed q # 5 ∷ framed q # 6 ∷ framed q # 7 ∷ framed q # 8 ∷ [])) ≡ q =
-    ap (λ (l : List ℕ). requestIn (frameOf l)) (nine (framed q) (framed-length q)) ∙ ap requestIn (framed-is-read q) in
+    let read = ap (requestOf (framed q # 0)) (nine (framed q) (framed-length q)) ∙ framed-makes q in
     (λ i. record { request = read i; number = quad-forth n i })
 
 pub change-laid : Laid changeTable
 change-laid = record {
   near = λ f g h. λ i. record {
-    request = requestIn (frameOf (h 0 (omega arith) i ∷ h 1 (omega arith) i ∷ h 2 (omega arith) i ∷ h 3 (omega arith) i ∷ h 4 (omega arith) i ∷ h 5 (omega arith) i ∷ h 6 (omega arith) i ∷ h 7 (omega arith) i ∷ h 8 (omega arith) i ∷ []));
+    request = requestOf (h 0 (omega arith) i) (h 0 (omega arith) i ∷ h 1 (omega arith) i ∷ h 2 (omega arith) i ∷ h 3 (omega arith) i ∷ h 4 (omega arith) i ∷ h 5 (omega arith) i ∷ h 6 (omega arith) i ∷ h 7 (omega arith) i ∷ h 8 (omega arith) i ∷ []);
     number = quad (h 9 (omega arith) i) (h 10 (omega arith) i) (h 11 (omega arith) i) (h 12 (omega arith) i);
   };
   back = λ c. said (c .request) (c .number);

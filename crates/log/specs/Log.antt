@@ -6,10 +6,8 @@ use lib.Dec.{ltb}
 use lib.ListN.{length, getD, take, drop}
 use Rattle.records.specs.Tables.{Table, at, tabulate}
 use Rattle.request.specs.Bytes.{_#_, quad, quadBytes}
-use Rattle.request.specs.Reading.{frameOf}
+use Rattle.request.specs.Reading.{requestOf}
 use Rattle.request.specs.Writing.{framed}
-use Rattle.request.specs.declared.Frame.{Frame}
-use Rattle.request.specs.declared.Frame.the-variants.{Whole, Unknown, Cut}
 use Rattle.request.specs.declared.Request.{Request}
 use Rattle.request.specs.declared.Request.the-variants.{TakeBack}
 use Rattle.effects.specs.declared.Change.{Change}
@@ -18,11 +16,6 @@ use Rattle.effects.specs.declared.Change.{Change}
 abbrev pub noChange : Change
 noChange = record { request = TakeBack 0; number = 0 }
 
-abbrev pub requestIn : Frame → Request
-requestIn (Whole q) = q
-requestIn Unknown = TakeBack 0
-requestIn Cut = TakeBack 0
-
 -- 32 slots of 13 bytes: nine of the request, four of the number
 abbrev pub changeTable : Table Change
 changeTable = record {
@@ -30,7 +23,7 @@ changeTable = record {
   width = 13;
   count = 32;
   of = λ f. record {
-    request = requestIn (frameOf (f 0 ∷ f 1 ∷ f 2 ∷ f 3 ∷ f 4 ∷ f 5 ∷ f 6 ∷ f 7 ∷ f 8 ∷ []));
+    request = requestOf (f 0) (f 0 ∷ f 1 ∷ f 2 ∷ f 3 ∷ f 4 ∷ f 5 ∷ f 6 ∷ f 7 ∷ f 8 ∷ []);
     number = quad (f 9) (f 10) (f 11) (f 12);
   };
   cells = λ c. let b = framed (c .request) in b # 0 ∷ b # 1 ∷ b # 2 ∷ b # 3 ∷ b # 4 ∷ b # 5 ∷ b # 6 ∷ b # 7 ∷ b # 8 ∷ quadBytes (c .number) [];

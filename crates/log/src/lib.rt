@@ -6,10 +6,9 @@ ghost use lib.ListN.{length, getD};
 ghost use Rattle.records.specs.House.{view};
 ghost use Rattle.records.specs.Tables.{at, putAt};
 ghost use Rattle.effects.specs.Effects.{applied};
-ghost use Rattle.log.specs.Log.{changeTable, past, noChange, requestIn, emptyLog, pushed, popped};
+ghost use Rattle.log.specs.Log.{changeTable, past, noChange, emptyLog, pushed, popped};
 use effects::Change;
 use records::Cells;
-use request::Frame;
 use request::Request;
 
 // Byte 0 is the slot of the oldest change and byte 1 their number; then 32 slots of 13 bytes: nine of the request, four of the number.
@@ -52,22 +51,12 @@ fn slot_of(log: &Log, i: usize) -> usize
     (wide(log[0]) + i) % 32
 }
 
-fn request_in(frame: Frame) -> Request
-    ensures { λ r. ⌜ r ≡ requestIn frame ⌝ }
-{
-    match frame {
-        Frame::Whole(request) => request,
-        Frame::Unknown => Request::TakeBack { u: 0 },
-        Frame::Cut => Request::TakeBack { u: 0 },
-    }
-}
-
 fn read_slot(log: &Log, slot: usize) -> Change
     requires { ⌜ slot < 32 ⌝ }
     ensures { λ r. ⌜ r ≡ at changeTable (now (log .entry)) slot ⌝ }
 {
     let at = SLOTS + 13 * slot;
-    let frame = [
+    let request = request::request_of(
         log[at],
         log[at + 1],
         log[at + 2],
@@ -77,12 +66,9 @@ fn read_slot(log: &Log, slot: usize) -> Change
         log[at + 6],
         log[at + 7],
         log[at + 8],
-    ];
+    );
     let number = request::number_of(log[at + 9], log[at + 10], log[at + 11], log[at + 12]);
-    Change {
-        request: request_in(request::read(&frame)),
-        number,
-    }
+    Change { request, number }
 }
 
 fn write_slot(log: &mut Log, slot: usize, change: Change)

@@ -1,10 +1,11 @@
 -- Lookups: what a search has still to look through, and what a found draft is.
 use Prim.Native.Nat.{ℕ, suc, _+_, _-_, _≤_, _<_}
-use mathlib.Core.Path.{_≡_, refl}
+use mathlib.Core.Path.{_≡_, refl, _∙_}
 use mathlib.Core.Bool.{Bool, true, false, cond, _||_}
 use mathlib.Core.List.{List, [], _∷_}
 use native.Mathlib.Omega.{arith}
 use native.Mathlib.Numerals.{add-one}
+use lib.Dec.{eqb}
 use lib.ListN.{length, drop, getD, drop-of-length-le}
 use lib.Seq.{drop-cons}
 use Rattle.records.specs.Lists.{any}
@@ -19,6 +20,13 @@ module _ {A : Type 0} (p : A → Bool) (l : List A) (i : ℕ) where
 
   pub first-end : length l ≤ i → firstFrom i p (drop i l) ≡ Nothing
   first-end h = rw (drop-of-length-le l h)
+
+-- ---- no draft before place i has that number: for every script the search goes on there
+abbrev pub From : House → ℕ → ℕ → Type 0
+From h v i = (s : ℕ) → findDraft h s v ≡ firstFrom i (draftIs s v) (drop i (h .drafts))
+
+pub passed : (h : House) (v i j : ℕ) → i < length (h .drafts) → j ≡ i + 1 → eqb (draftAt h i .number) v ≡ false → From h v i → From h v j
+passed h v i j below next other from s = rw next (from s ∙ first-more (draftIs s v) (h .drafts) i noDraft below ∙ rw other)
 
 -- ---- what a search found: a place of the list, where the test holds
 pub record Stands {A : Type 0} (n : ℕ) (p : A → Bool) (l : List A) (d : A) (i : ℕ) : Type 0 where

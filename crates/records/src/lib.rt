@@ -1,11 +1,12 @@
 // The records of one house: where they lie, how an element is read and stored, and what a lookup finds.
 ghost use mathlib.Core.Path.{_≡_};
-ghost use lib.ListN.{length};
-ghost use Prim.Native.Nat.{_<_, _≤_};
+ghost use lib.Dec.{eqb};
+ghost use lib.ListN.{length, drop};
+ghost use Prim.Native.Nat.{ℕ, _<_, _≤_};
 ghost use Rattle.records.specs.Tables.{putAt};
 ghost use Rattle.records.specs.Places.{has, with, without};
 ghost use Rattle.records.specs.House.{noUser, noScript, noSession, noDraft, numberOf, draftTable, view, emptyHouse, user, script, session, draftAt, putUser, putRooms, putScript, putSession, putDraft, cutDrafts, addDraft};
-ghost use Rattle.records.specs.Lookups.{findUser, findRoom, findScript, findSession, draftIs, findDraft};
+ghost use Rattle.records.specs.Lookups.{findUser, findRoom, findScript, findSession, firstFrom, draftIs, findDraft};
 
 // The rooms that exist, the number of live drafts, then the tables: 64 users of 7 cells, 64 scripts of 4, 64 sessions of 6, 256 drafts of 3.
 // An absent slot is all zeros, and the live drafts stand first, by ascending number.
@@ -395,12 +396,44 @@ fn draft_is(draft: Draft, script: u8, number: u32) -> bool
     (draft.number == number) & (draft.script == script as u32)
 }
 
+fn has_number(records: &Cells, i: usize, number: u32) -> bool
+    ensures { λ r. ⌜ r ≡ eqb (draftAt (view (now (records .entry))) i .number) number ⌝ }
+{
+    let draft = draft_at(records, i);
+    draft.number == number
+}
+
+// How many drafts at the front have another number. Four are asked a turn, for speed; those behind the last four are not asked.
+fn others(records: &Cells, number: u32) -> usize
+    ensures { λ r. ⌜ (r ≤ length (view (now (records .entry)) .drafts)) × ((script : ℕ) → findDraft (view (now (records .entry))) script number ≡ firstFrom r (draftIs script number) (drop r (view (now (records .entry)) .drafts))) ⌝ }
+{
+    let end = draft_count(records);
+    let mut i: usize = 0;
+    'fours: while i + 4 <= end {
+        if has_number(records, i, number) {
+            return i;
+        }
+        if has_number(records, i + 1, number) {
+            return i + 1;
+        }
+        if has_number(records, i + 2, number) {
+            return i + 2;
+        }
+        if has_number(records, i + 3, number) {
+            return i + 3;
+        }
+        i += 4;
+    }
+    i
+}
+
 // Where the draft of that script and number stands among the live ones.
 pub fn find_draft(records: &Cells, script: u8, number: u32) -> Found
     ensures { λ r. ⌜ r ≡ findDraft (view (now (records .entry))) script number ⌝ }
 {
     let end = draft_count(records);
-    'drafts: for i in 0..end {
+    let start = others(records, number);
+    'drafts: for i in start..end {
         let draft = draft_at(records, i);
         if draft_is(draft, script, number) {
             return Found::At(i);

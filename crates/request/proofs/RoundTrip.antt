@@ -11,7 +11,7 @@ use lib.Seq.{drop-cons}
 use borrow.Author.Tests.{leb-false}
 use Rattle.request.specs.Bytes.{_#_, pair, pairAt, quad, quadAt, pairBytes, quadBytes}
 use Rattle.request.specs.Kinds.{Body, one, two, four, make, Row, Sought, at, none, rows, find, lengthAt, bodyLength}
-use Rattle.request.specs.Reading.{fieldsFrom, requestOf, frameAt, frameOf}
+use Rattle.request.specs.Reading.{fieldsFrom, requestAt, requestOf, frameAt, frameOf}
 use Rattle.request.specs.Writing.{written, framed}
 use Rattle.request.specs.declared.Frame.{Frame}
 use Rattle.request.specs.declared.Frame.the-variants.{Whole, Unknown, Cut}
@@ -249,3 +249,17 @@ framed-length (Update s script v) = refl
 framed-length (Create s script) = refl
 framed-length (Kill u s) = refl
 framed-length (TakeBack u) = refl
+
+-- ---- and these nine bytes make it again
+whole-makes : (s : Sought) (b : List ℕ) (q : Request) → frameAt s b ≡ Whole q → requestAt s b ≡ q
+whole-makes (at r) b q e = go (leb (length b) (r .length)) e
+  where
+    go : (t : Bool) → cond t Cut (Whole (fieldsFrom b 1 (r .body))) ≡ Whole q → fieldsFrom b 1 (r .body) ≡ q
+    go true e = absurd (let z : _≡_ {A = ℕ} 0 1 = cc in omega arith)
+    go false e = cc
+whole-makes none b q e = absurd (let z : _≡_ {A = ℕ} 0 1 = cc in omega arith)
+
+pub framed-makes : (q : Request) → requestOf (framed q # 0) (framed q) ≡ q
+framed-makes q =
+    let z = framed-length q in
+    whole-makes (find rows (framed q # 0)) (framed q) q (sym (by-row (framed q) (λ e. omega arith) (find rows (framed q # 0)) refl) ∙ framed-is-read q)

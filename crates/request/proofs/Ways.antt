@@ -1,17 +1,17 @@
 -- The ways through `read`, each as a law of `frameOf`.
 use mathlib.Core.Path.{_≡_, refl, sym, ap, _∙_, subst}
-use mathlib.Core.List.{List}
+use mathlib.Core.List.{List, [], _∷_}
 use Prim.Native.Nat.{ℕ, _≤_, _<_}
 use native.Mathlib.Omega.{arith}
 use lib.ListN.{length}
 use borrow.Author.Tests.{eq-eqb, ne-eqb, le-leb, lt-leb}
 use Rattle.request.specs.Bytes.{_#_}
-use Rattle.request.specs.Kinds.{Sought, at, none, rows, find, lengthAt, bodyLength}
-use Rattle.request.specs.Reading.{requestAt, requestOf, frameAt, frameOf}
+use Rattle.request.specs.Kinds.{Row, Sought, at, none, rows, find, lengthAt, bodyLength}
+use Rattle.request.specs.Reading.{fieldsFrom, requestAt, requestOf, frameAt, frameOf}
 use Rattle.request.specs.declared.Frame.{Frame}
 use Rattle.request.specs.declared.Frame.the-variants.{Whole, Unknown, Cut}
 use Rattle.request.specs.declared.Request.{Request}
-use Rattle.request.proofs.Rows.{NoneOf, kinds, not-a-kind, unknown-kind}
+use Rattle.request.proofs.Rows.{Each, _&_, found, unknown-kind}
 
 pub empty : (b : List ℕ) → length b ≡ 0 → Cut ≡ frameOf b
 unfolding frameOf
@@ -39,18 +39,32 @@ module _ (b : List ℕ) (ne : length b ≡ 0 → ⊥) (x n : ℕ) (is-kind : x �
   pub unknown : n ≡ 255 → Unknown ≡ frameOf b
   unknown e = sym (by-row b ne none (unknown-kind (b # 0) rows tt (length-is ∙ e)))
 
-  pub other : NoneOf kinds x → Unknown ≡ frameOf b
-  other h = sym (by-row b ne none (ap (find rows) (sym is-kind) ∙ not-a-kind x h))
-
   module _ (known : n ≡ 255 → ⊥) where
     pub cut : length b ≤ n → Cut ≡ frameOf b
     cut l =
         sym (by-row b ne (find rows (b # 0)) refl
         ∙ cut-at (find rows (b # 0)) b (λ e. known (sym length-is ∙ e)) (subst (λ (m : ℕ). length b ≤ m) (sym length-is) l))
 
-    -- the arm of the kind k
-    pub whole : (k : ℕ) → x ≡ k → n < length b → (q : Request) → q ≡ requestOf k b → Whole q ≡ frameOf b
-    whole k e l q is =
-        ap Whole (is ∙ ap (λ (j : ℕ). requestOf j b) (sym e ∙ is-kind))
+    pub whole : n < length b → (q : Request) → q ≡ requestOf (b # 0) b → Whole q ≡ frameOf b
+    whole l q is =
+        ap Whole is
         ∙ sym (by-row b ne (find rows (b # 0)) refl
         ∙ whole-at (find rows (b # 0)) b (λ e. known (sym length-is ∙ e)) (subst (λ (m : ℕ). m < length b) (sym length-is) l))
+
+-- no body reads further than byte 8
+abbrev nine : List ℕ → List ℕ
+nine b = b # 0 ∷ b # 1 ∷ b # 2 ∷ b # 3 ∷ b # 4 ∷ b # 5 ∷ b # 6 ∷ b # 7 ∷ b # 8 ∷ []
+
+abbrev Within : List ℕ → Row → Type 0
+Within b r = fieldsFrom (nine b) 1 (r .body) ≡ fieldsFrom b 1 (r .body)
+
+all-within : (b : List ℕ) → Each (Within b) rows
+all-within b =
+    refl & refl & refl & refl & refl & refl & refl & refl & refl & refl & refl & refl & refl & refl & refl & refl & refl & refl & refl & tt
+
+pub nine-will-do : (x : ℕ) (b : List ℕ) → requestOf x (nine b) ≡ requestOf x b
+nine-will-do x b = go (find rows x) refl
+  where
+    go : (s : Sought) → find rows x ≡ s → requestAt s (nine b) ≡ requestAt s b
+    go (at r) e = found (Within b) x r rows (all-within b) e .holds
+    go none e = refl

@@ -1,7 +1,8 @@
 // The desk's requests: their kinds, the lengths of their bodies, and reading one off its bytes.
 ghost use mathlib.Core.Path.{_≡_};
-ghost use Prim.Native.Nat.{_<_, _/_, _%_};
-ghost use Rattle.request.specs.Bytes.{_#_, pair, pairAt, quad, quadAt};
+ghost use mathlib.Core.List.{[], _∷_};
+ghost use Prim.Native.Nat.{_/_, _%_};
+ghost use Rattle.request.specs.Bytes.{_#_, pair, quad};
 ghost use Rattle.request.specs.Kinds.{bodyLength};
 ghost use Rattle.request.specs.Reading.{requestOf, frameOf};
 ghost use Rattle.request.specs.Writing.{quadOf, framed};
@@ -187,227 +188,120 @@ fn pair_of(high: u8, low: u8) -> u16
     (high as u16) * 256 + (low as u16)
 }
 
-fn categories_at(frame: &[u8], at: u8) -> u16
-    requires { ⌜ at < 16 ⌝ }
-    ensures { λ r. ⌜ r ≡ pairAt (now (frame .entry)) at ⌝ }
-{
-    pair_of(byte_at(frame, at), byte_at(frame, at + 1))
-}
-
 pub fn number_of(a: u8, b: u8, c: u8, d: u8) -> u32
     ensures { λ r. ⌜ r ≡ quad a b c d ⌝ }
 {
     (a as u32) * 16777216 + (b as u32) * 65536 + (c as u32) * 256 + (d as u32)
 }
 
-fn number_at(frame: &[u8], at: u8) -> u32
-    requires { ⌜ at < 16 ⌝ }
-    ensures { λ r. ⌜ r ≡ quadAt (now (frame .entry)) at ⌝ }
+// The request of a kind and of the bytes behind it, the first being b1; of a kind that is unknown, a take-back.
+pub fn request_of(
+    kind: u8,
+    b1: u8,
+    b2: u8,
+    b3: u8,
+    b4: u8,
+    b5: u8,
+    b6: u8,
+    b7: u8,
+    b8: u8,
+) -> Request
+    ensures { λ r. ⌜ r ≡ requestOf kind (kind ∷ b1 ∷ b2 ∷ b3 ∷ b4 ∷ b5 ∷ b6 ∷ b7 ∷ b8 ∷ []) ⌝ }
 {
-    number_of(
-        byte_at(frame, at),
-        byte_at(frame, at + 1),
-        byte_at(frame, at + 2),
-        byte_at(frame, at + 3),
-    )
-}
-
-// ---- one function a kind: the request of a frame of that kind
-fn enrol(frame: &[u8]) -> Request
-    ensures { λ r. ⌜ r ≡ requestOf 0x01 (now (frame .entry)) ⌝ }
-{
-    Request::Enrol {
-        u: byte_at(frame, 1),
-        new: byte_at(frame, 2),
-        sort: byte_at(frame, 3),
-        level: byte_at(frame, 4),
-        categories: categories_at(frame, 5),
-        admin: byte_at(frame, 7),
-    }
-}
-
-fn establish(frame: &[u8]) -> Request
-    ensures { λ r. ⌜ r ≡ requestOf 0x02 (now (frame .entry)) ⌝ }
-{
-    Request::Establish {
-        u: byte_at(frame, 1),
-        room: byte_at(frame, 2),
-    }
-}
-
-fn join_staff(frame: &[u8]) -> Request
-    ensures { λ r. ⌜ r ≡ requestOf 0x03 (now (frame .entry)) ⌝ }
-{
-    Request::JoinStaff {
-        u: byte_at(frame, 1),
-        w: byte_at(frame, 2),
-        room: byte_at(frame, 3),
-    }
-}
-
-fn leave_staff(frame: &[u8]) -> Request
-    ensures { λ r. ⌜ r ≡ requestOf 0x04 (now (frame .entry)) ⌝ }
-{
-    Request::LeaveStaff {
-        u: byte_at(frame, 1),
-        w: byte_at(frame, 2),
-        room: byte_at(frame, 3),
-    }
-}
-
-fn join_outsider(frame: &[u8]) -> Request
-    ensures { λ r. ⌜ r ≡ requestOf 0x05 (now (frame .entry)) ⌝ }
-{
-    Request::JoinOutsider {
-        u: byte_at(frame, 1),
-        w: byte_at(frame, 2),
-        room: byte_at(frame, 3),
-        level: byte_at(frame, 4),
-        categories: categories_at(frame, 5),
-    }
-}
-
-fn leave_outsider(frame: &[u8]) -> Request
-    ensures { λ r. ⌜ r ≡ requestOf 0x06 (now (frame .entry)) ⌝ }
-{
-    Request::LeaveOutsider {
-        u: byte_at(frame, 1),
-        w: byte_at(frame, 2),
-        room: byte_at(frame, 3),
-    }
-}
-
-fn add(frame: &[u8]) -> Request
-    ensures { λ r. ⌜ r ≡ requestOf 0x07 (now (frame .entry)) ⌝ }
-{
-    Request::Add {
-        u: byte_at(frame, 1),
-        script: byte_at(frame, 2),
-        number: number_at(frame, 3),
-        room: byte_at(frame, 7),
-    }
-}
-
-fn remove(frame: &[u8]) -> Request
-    ensures { λ r. ⌜ r ≡ requestOf 0x08 (now (frame .entry)) ⌝ }
-{
-    Request::Remove {
-        u: byte_at(frame, 1),
-        script: byte_at(frame, 2),
-        number: number_at(frame, 3),
-        room: byte_at(frame, 7),
-    }
-}
-
-fn import(frame: &[u8]) -> Request
-    ensures { λ r. ⌜ r ≡ requestOf 0x09 (now (frame .entry)) ⌝ }
-{
-    Request::Import {
-        u: byte_at(frame, 1),
-        script1: byte_at(frame, 2),
-        number: number_at(frame, 3),
-        script2: byte_at(frame, 7),
-        room: byte_at(frame, 8),
-    }
-}
-
-fn merge(frame: &[u8]) -> Request
-    ensures { λ r. ⌜ r ≡ requestOf 0x0A (now (frame .entry)) ⌝ }
-{
-    Request::Merge {
-        u: byte_at(frame, 1),
-        script: byte_at(frame, 2),
-        number: number_at(frame, 3),
-        room: byte_at(frame, 7),
-    }
-}
-
-fn disband(frame: &[u8]) -> Request
-    ensures { λ r. ⌜ r ≡ requestOf 0x0B (now (frame .entry)) ⌝ }
-{
-    Request::Disband {
-        u: byte_at(frame, 1),
-        room: byte_at(frame, 2),
-    }
-}
-
-fn open_in_room(frame: &[u8]) -> Request
-    ensures { λ r. ⌜ r ≡ requestOf 0x10 (now (frame .entry)) ⌝ }
-{
-    Request::OpenInRoom {
-        u: byte_at(frame, 1),
-        session: byte_at(frame, 2),
-        room: byte_at(frame, 3),
-        level: byte_at(frame, 4),
-        categories: categories_at(frame, 5),
-    }
-}
-
-fn open_in_house(frame: &[u8]) -> Request
-    ensures { λ r. ⌜ r ≡ requestOf 0x11 (now (frame .entry)) ⌝ }
-{
-    Request::OpenInHouse {
-        u: byte_at(frame, 1),
-        session: byte_at(frame, 2),
-        level: byte_at(frame, 3),
-        categories: categories_at(frame, 4),
-    }
-}
-
-fn open_read_only(frame: &[u8]) -> Request
-    ensures { λ r. ⌜ r ≡ requestOf 0x12 (now (frame .entry)) ⌝ }
-{
-    Request::OpenReadOnly {
-        u: byte_at(frame, 1),
-        session: byte_at(frame, 2),
-        level: byte_at(frame, 3),
-        categories: categories_at(frame, 4),
-    }
-}
-
-fn read_draft(frame: &[u8]) -> Request
-    ensures { λ r. ⌜ r ≡ requestOf 0x13 (now (frame .entry)) ⌝ }
-{
-    Request::Read {
-        session: byte_at(frame, 1),
-        script: byte_at(frame, 2),
-        number: number_at(frame, 3),
-    }
-}
-
-fn update(frame: &[u8]) -> Request
-    ensures { λ r. ⌜ r ≡ requestOf 0x14 (now (frame .entry)) ⌝ }
-{
-    Request::Update {
-        session: byte_at(frame, 1),
-        script: byte_at(frame, 2),
-        number: number_at(frame, 3),
-    }
-}
-
-fn create(frame: &[u8]) -> Request
-    ensures { λ r. ⌜ r ≡ requestOf 0x15 (now (frame .entry)) ⌝ }
-{
-    Request::Create {
-        session: byte_at(frame, 1),
-        script: byte_at(frame, 2),
-    }
-}
-
-fn kill(frame: &[u8]) -> Request
-    ensures { λ r. ⌜ r ≡ requestOf 0x16 (now (frame .entry)) ⌝ }
-{
-    Request::Kill {
-        u: byte_at(frame, 1),
-        session: byte_at(frame, 2),
-    }
-}
-
-fn take_back(frame: &[u8]) -> Request
-    ensures { λ r. ⌜ r ≡ requestOf 0x20 (now (frame .entry)) ⌝ }
-{
-    Request::TakeBack {
-        u: byte_at(frame, 1),
+    match kind {
+        0x01 => Request::Enrol {
+            u: b1,
+            new: b2,
+            sort: b3,
+            level: b4,
+            categories: pair_of(b5, b6),
+            admin: b7,
+        },
+        0x02 => Request::Establish { u: b1, room: b2 },
+        0x03 => Request::JoinStaff {
+            u: b1,
+            w: b2,
+            room: b3,
+        },
+        0x04 => Request::LeaveStaff {
+            u: b1,
+            w: b2,
+            room: b3,
+        },
+        0x05 => Request::JoinOutsider {
+            u: b1,
+            w: b2,
+            room: b3,
+            level: b4,
+            categories: pair_of(b5, b6),
+        },
+        0x06 => Request::LeaveOutsider {
+            u: b1,
+            w: b2,
+            room: b3,
+        },
+        0x07 => Request::Add {
+            u: b1,
+            script: b2,
+            number: number_of(b3, b4, b5, b6),
+            room: b7,
+        },
+        0x08 => Request::Remove {
+            u: b1,
+            script: b2,
+            number: number_of(b3, b4, b5, b6),
+            room: b7,
+        },
+        0x09 => Request::Import {
+            u: b1,
+            script1: b2,
+            number: number_of(b3, b4, b5, b6),
+            script2: b7,
+            room: b8,
+        },
+        0x0A => Request::Merge {
+            u: b1,
+            script: b2,
+            number: number_of(b3, b4, b5, b6),
+            room: b7,
+        },
+        0x0B => Request::Disband { u: b1, room: b2 },
+        0x10 => Request::OpenInRoom {
+            u: b1,
+            session: b2,
+            room: b3,
+            level: b4,
+            categories: pair_of(b5, b6),
+        },
+        0x11 => Request::OpenInHouse {
+            u: b1,
+            session: b2,
+            level: b3,
+            categories: pair_of(b4, b5),
+        },
+        0x12 => Request::OpenReadOnly {
+            u: b1,
+            session: b2,
+            level: b3,
+            categories: pair_of(b4, b5),
+        },
+        0x13 => Request::Read {
+            session: b1,
+            script: b2,
+            number: number_of(b3, b4, b5, b6),
+        },
+        0x14 => Request::Update {
+            session: b1,
+            script: b2,
+            number: number_of(b3, b4, b5, b6),
+        },
+        0x15 => Request::Create {
+            session: b1,
+            script: b2,
+        },
+        0x16 => Request::Kill { u: b1, session: b2 },
+        0x20 => Request::TakeBack { u: b1 },
+        _ => Request::TakeBack { u: 0 },
     }
 }
 
@@ -418,36 +312,26 @@ pub fn read(bytes: &[u8]) -> Frame
     if bytes.len() == 0 {
         return Frame::Cut;
     }
-    let kind = wide(bytes[0]);
-    let length = body_length(kind);
+    let kind = bytes[0];
+    let length = body_length(wide(kind));
     if length == 255 {
         return Frame::Unknown;
     }
     if bytes.len() <= length as usize {
         return Frame::Cut;
     }
-    match kind {
-        0x01 => Frame::Whole(enrol(bytes)),
-        0x02 => Frame::Whole(establish(bytes)),
-        0x03 => Frame::Whole(join_staff(bytes)),
-        0x04 => Frame::Whole(leave_staff(bytes)),
-        0x05 => Frame::Whole(join_outsider(bytes)),
-        0x06 => Frame::Whole(leave_outsider(bytes)),
-        0x07 => Frame::Whole(add(bytes)),
-        0x08 => Frame::Whole(remove(bytes)),
-        0x09 => Frame::Whole(import(bytes)),
-        0x0A => Frame::Whole(merge(bytes)),
-        0x0B => Frame::Whole(disband(bytes)),
-        0x10 => Frame::Whole(open_in_room(bytes)),
-        0x11 => Frame::Whole(open_in_house(bytes)),
-        0x12 => Frame::Whole(open_read_only(bytes)),
-        0x13 => Frame::Whole(read_draft(bytes)),
-        0x14 => Frame::Whole(update(bytes)),
-        0x15 => Frame::Whole(create(bytes)),
-        0x16 => Frame::Whole(kill(bytes)),
-        0x20 => Frame::Whole(take_back(bytes)),
-        _ => Frame::Unknown,
-    }
+    let request = request_of(
+        kind,
+        byte_at(bytes, 1),
+        byte_at(bytes, 2),
+        byte_at(bytes, 3),
+        byte_at(bytes, 4),
+        byte_at(bytes, 5),
+        byte_at(bytes, 6),
+        byte_at(bytes, 7),
+        byte_at(bytes, 8),
+    );
+    Frame::Whole(request)
 }
 
 // ---- writing: the bytes of a request, and zeros behind them

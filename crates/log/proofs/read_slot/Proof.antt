@@ -7,9 +7,8 @@ use Rattle.log.proofs.read_slot.Tie as tie
 
 returns : tie.Need-returns
 returns c =
-    let n = c .before .before .before in
-    let a = n .before .before .before .before .before .before .before .before .before .before .before .before .before .before .args in
-    rw (c .request-in .ensures, c .before .read .ensures, n .number-of .ensures, add-zero (2 + 13 * a .slot))
+    let q = c .before .before .before .before .before in
+    rw (q .request-of .ensures, c .number-of .ensures, add-zero (2 + 13 * q .before .before .before .before .before .before .before .before .before .before .args .slot))
 
 pub read-slot-spec : {M : Type 1} → statement M
 read-slot-spec =
@@ -18,6 +17,6 @@ read-slot-spec =
     (λ c. search needs) (λ c. search needs) (λ c. search needs) (λ c. search needs) (λ c. search needs) (λ c. search needs)
     (λ c. search needs) (λ c. search needs) (λ c. search needs) (λ c. search needs) (λ c. search needs) (λ c. search needs)
     (λ c. search needs) (λ c. search needs) (λ c. search needs) (λ c. search needs) (λ c. search needs) (λ c. search needs)
-    (λ c. search needs) (λ c. search needs) (λ c. search needs) (λ c. search needs) (λ c. search needs) (λ c. search needs)
-    (λ c. search needs) (λ c. search needs) (λ c. search needs) (λ c κs. search needs) (λ c. search needs) (λ c κs. search needs)
-    (λ c κs. search needs) returns)
+    (λ c. search needs) (λ c κs. search needs) (λ c. search needs) (λ c. search needs) (λ c. search needs) (λ c. search needs)
+    (λ c. search needs) (λ c. search needs) (λ c. search needs) (λ c. search needs) (λ c κs. search needs)
+    returns)
