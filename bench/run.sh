@@ -6,7 +6,7 @@
 set -eu
 root=$(CDPATH='' cd -- "$(dirname -- "$0")/.." && pwd -P)
 requests=${1:-1000000} runs=${2:-7}
-for tool in gcc rustc awk; do
+for tool in gcc awk; do
     command -v "$tool" >/dev/null || { echo "bench: $tool is missing" >&2; exit 1; }
 done
 work=$(mktemp -d)
@@ -15,10 +15,10 @@ trap 'exit 1' HUP INT TERM
 
 "$root/desk" </dev/null >/dev/null
 gcc -std=c99 -O2 -D_DEFAULT_SOURCE "$root/bench/desk.c" -o "$work/c"
-rustc -O --edition 2021 "$root/tests/model/src/main.rs" -o "$work/model"
+model=$(sh "$root/tests/build-model.sh")
 
-# One long run of the model's generator; its making is slow, since the model checks the record rules after each request.
-"$work/model" generate 1 "$requests" >"$work/stream"
+# One long run of the model's generator, to its last byte.
+"$model" generate 1 "$requests" --whole >"$work/stream"
 "$work/c" <"$work/stream" >"$work/c.out"
 "$root/desk" <"$work/stream" >"$work/desk.out"
 cmp "$work/c.out" "$work/desk.out" || { echo "bench: the two answer differently" >&2; exit 1; }

@@ -1,77 +1,141 @@
 #!/bin/sh
-# Compares the program with the model of document 01 on generated runs, fresh seeds each time.
-# SEEDS="7 8" repeats those seeds alone; COUNT is a run's length; DESK names another program.
+# Compares the programs with the model of document 01, on fresh seeds each time: `desk` on generated runs, `edges` on generated batches.
+# SEEDS="7 8" repeats those seeds alone; COUNT is a run's length; DESK and EDGES name other programs.
 set -eu
-root=$(cd "$(dirname "$0")/.." && pwd)
+root=$(CDPATH='' cd -- "$(dirname -- "$0")/.." && pwd -P)
 desk=${DESK:-$root/desk}
+edges=${EDGES:-$root/target/bin/edges}
 count=${COUNT:-1000}
 runs=${RUNS:-210}
+long=50000
+files=${FILES:-40}
+batch_count=2000
 
-[ -x "$desk" ] || { echo "model.sh: no program at $desk" >&2; exit 1; }
+fail() { echo "model.sh: $*" >&2; exit 1; }
+
+# A program named by the caller may be anything that runs here; the project's own may need the emulator.
+run_edges() {
+    if [ -n "${EDGES:-}" ]; then "$edges"; else sh "$root/tests/run-program.sh" "$edges"; fi
+}
+
 # Once before all: a program that can't start, or builds itself first, is found here and not in every run.
-"$desk" < /dev/null > /dev/null || { echo "model.sh: $desk does not run" >&2; exit 1; }
-if ! command -v rustc >/dev/null 2>&1; then
-    if [ "$(id -u)" = 0 ] && command -v apt-get >/dev/null 2>&1; then
-        echo "model.sh: installing rustc" >&2
-        apt-get update >/dev/null 2>&1 && apt-get install -y rustc >/dev/null 2>&1 || true
-    fi
-    command -v rustc >/dev/null 2>&1 || { echo "model.sh: rustc is missing; apt-get install -y rustc" >&2; exit 1; }
-fi
+[ -x "$desk" ] || fail "no program at $desk"
+"$desk" < /dev/null > /dev/null || fail "$desk does not run"
+[ -x "$edges" ] || fail "no program at $edges; rt check edges builds it"
+run_edges < /dev/null > /dev/null || fail "$edges does not run"
+model=$(sh "$root/tests/build-model.sh") || fail "the model was not built"
 
 work=$(mktemp -d)
 trap 'rm -rf "$work"' EXIT
 trap 'exit 1' HUP INT TERM
-model=$work/model
-rustc -O --edition 2021 "$root/tests/model/src/main.rs" -o "$model"
+
+# The line at which the second file first differs from the first.
+first_difference() {
+    awk -v other="$2" '
+        { if ((getline line < other) <= 0) line = "(nothing)" }
+        line != $0 { print NR; found = 1; exit }
+        END { if (!found) print NR + 1 }' "$1"
+}
+
+# edges also prints two counts that belong to no case.
+cases_alone() { sed -e '/^unknown-kinds /d' -e '/^cut-frames /d' "$1"; }
+
+# Says where a program's lines differ from the model's, with what was asked there.
+show() {
+    echo "  asked:   $1"
+    echo "  model:   $(sed -n "${2}p" "$work/expected")"
+    echo "  program: $(sed -n "${2}p" "$work/got")"
+    [ "$status" = 0 ] || echo "  the program ended with $status: $(head -n 1 "$work/errors")"
+}
+
+requests=0
+granted=0
+compare_run() { # SEED COUNT
+    "$model" generate "$1" "$2" > "$work/run"
+    "$model" run < "$work/run" > "$work/expected" || fail "seed $1: the model broke a rule"
+    status=0
+    "$desk" < "$work/run" > "$work/got" 2> "$work/errors" || status=$?
+    if ! cmp -s "$work/expected" "$work/got"; then
+        ordinal=$(first_difference "$work/expected" "$work/got")
+        echo "seed $1, request $ordinal differs (SEEDS=$1 COUNT=$2 runs it again)"
+        show "$("$model" requests < "$work/run" | awk -v n="$ordinal" '$1 == n { print $2 }')" "$ordinal"
+        exit 1
+    fi
+    [ "$status" = 0 ] || fail "seed $1: the program ended with $status"
+    set -- $(awk '{ n++ } $3 ~ /^8/ { g++ } END { print n + 0, g + 0 }' "$work/expected")
+    requests=$((requests + $1))
+    granted=$((granted + $2))
+}
+
+: > "$work/batches"
+compare_batches() { # SEED
+    "$model" batches "$1" "$batch_count" > "$work/cases"
+    "$model" batch < "$work/cases" > "$work/expected" || fail "seed $1: the model broke a rule in a batch"
+    status=0
+    run_edges < "$work/cases" > "$work/all" 2> "$work/errors" || status=$?
+    cases_alone "$work/all" > "$work/got"
+    if ! cmp -s "$work/expected" "$work/got"; then
+        line=$(first_difference "$work/expected" "$work/got")
+        name=$(sed -n "${line}s/ .*//p" "$work/expected")
+        echo "seed $1, case ${name:-after the last} differs (SEEDS=$1 runs it again)"
+        show "$(grep -v -e '^#' -e '^$' "$work/cases" | sed -n "${line}p")" "$line"
+        exit 1
+    fi
+    [ "$status" = 0 ] || fail "seed $1: $edges ended with $status"
+    cat "$work/expected" >> "$work/batches"
+}
 
 # The document's own run first: a model that fails it compares nothing.
-sh "$root/tests/runs.sh" "$model" document >/dev/null || { echo "model.sh: the model fails the document's run" >&2; exit 1; }
+sh "$root/tests/runs.sh" "$model" document >/dev/null || fail "the model fails the document's run"
 
 # Opened at 4,294,967,294: one number, then 11. The program opens with 0, so the model shows this alone.
 printf '\001\000\000\000\005\000\003\001\021\000\000\002\000\001\025\000\000\025\000\001' > "$work/run"
 "$model" run --opened 4294967294 < "$work/run" | tail -n 2 > "$work/got"
-printf '3 15 81 4294967295\n4 15 CB -\n' | cmp -s - "$work/got" || { echo "model.sh: the model fails at the last number" >&2; exit 1; }
+printf '3 15 81 4294967295\n4 15 CB -\n' | cmp -s - "$work/got" || fail "the model fails at the last number"
+
+# The stored cases of edges, which were written by hand.
+cases=$root/crates/edges/stdin
+[ -f "$cases" ] || fail "no stored cases at $cases"
+cases_alone "$root/crates/edges/stdout" > "$work/expected"
+status=0
+"$model" batch < "$cases" > "$work/got" 2> "$work/errors" || status=$?
+if ! cmp -s "$work/expected" "$work/got" || [ "$status" != 0 ]; then
+    line=$(first_difference "$work/expected" "$work/got")
+    echo "the stored cases of edges: line $line differs"
+    echo "  stored:  $(sed -n "${line}p" "$work/expected")"
+    echo "  model:   $(sed -n "${line}p" "$work/got")"
+    [ "$status" = 0 ] || echo "  the model ended with $status: $(head -n 1 "$work/errors")"
+    exit 1
+fi
+stored=$(wc -l < "$work/expected")
+[ "$stored" -gt 0 ] || fail "no stored cases in $cases"
+echo "$stored stored cases of edges: the model prints the same"
 
 if [ -n "${SEEDS:-}" ]; then
     seeds=$SEEDS
-    whole=no
+    for seed in $seeds; do
+        compare_run "$seed" "$count"
+        compare_batches "$seed"
+    done
 else
     # Seeds of one second never meet those of the next.
     first=$(($(date +%s) * 1000))
     seeds=$(awk -v first="$first" -v runs="$runs" 'BEGIN { for (i = 0; i < runs; i++) printf "%.0f ", first + i }')
-    whole=yes
-    echo "seeds $first to $((first + runs - 1)), $count requests each"
+    echo "seeds $first to $((first + runs - 1)), $count requests each; $((first + 999)), $long requests"
+    for seed in $seeds; do compare_run "$seed" "$count"; done
+    # A long run uses the same slots again and again.
+    compare_run $((first + 999)) "$long"
+    echo "seeds $first to $((first + files - 1)), batches of at most $batch_count requests each"
+    for seed in $(echo "$seeds" | tr ' ' '\n' | head -n "$files"); do compare_batches "$seed"; done
 fi
-
-requests=0
-granted=0
-for seed in $seeds; do
-    "$model" generate "$seed" "$count" > "$work/run"
-    "$model" run < "$work/run" > "$work/expected" || { echo "model.sh: seed $seed: the model broke a rule" >&2; exit 1; }
-    status=0
-    "$desk" < "$work/run" > "$work/got" 2> "$work/errors" || status=$?
-    if ! cmp -s "$work/expected" "$work/got"; then
-        ordinal=$(awk -v other="$work/got" '
-            { if ((getline line < other) <= 0) line = "(nothing)" }
-            line != $0 { print NR; found = 1; exit }
-            END { if (!found) print NR + 1 }' "$work/expected")
-        echo "seed $seed, request $ordinal differs (SEEDS=$seed COUNT=$count runs it again)"
-        echo "  bytes:   $("$model" requests < "$work/run" | awk -v n="$ordinal" '$1 == n { print $2 }')"
-        echo "  model:   $(sed -n "${ordinal}p" "$work/expected")"
-        echo "  program: $(sed -n "${ordinal}p" "$work/got")"
-        [ "$status" = 0 ] || echo "  the program ended with $status: $(head -n 1 "$work/errors")"
-        exit 1
-    fi
-    [ "$status" = 0 ] || { echo "seed $seed: the program ended with $status"; exit 1; }
-    set -- $(awk '{ n++ } $3 ~ /^8/ { g++ } END { print n + 0, g + 0 }' "$work/expected")
-    requests=$((requests + $1))
-    granted=$((granted + $2))
-done
 echo "$requests requests compared, $granted granted, no difference"
+set -- $(awk '{ stops[$2]++ } END { print NR, stops[0] + 0, stops[1] + 0, stops[2] + 0, stops[13] + 0 }' "$work/batches")
+echo "$1 batches compared: stop 0 $2, stop 1 $3, stop 2 $4, stop 13 $5, no difference"
 
-if [ "$whole" = yes ]; then
-    [ "$requests" -ge 200000 ] || { echo "model.sh: fewer than 200000 requests"; exit 1; }
-    [ $((2 * granted)) -ge "$requests" ] || { echo "model.sh: fewer than half granted"; exit 1; }
-    "$model" coverage "$count" $seeds > "$work/coverage" || { cat "$work/coverage"; echo "model.sh: coverage incomplete"; exit 1; }
+if [ -z "${SEEDS:-}" ]; then
+    [ "$requests" -ge 200000 ] || fail "fewer than 200000 requests"
+    [ $((2 * granted)) -ge "$requests" ] || fail "fewer than half granted"
+    [ "$files" -ge 40 ] && [ "$2" -ge 1000 ] && [ "$3" -ge 1000 ] && [ "$4" -ge 1000 ] && [ "$5" -ge 1000 ] || fail "too few batches"
+    "$model" coverage "$count" $seeds > "$work/coverage" || { cat "$work/coverage"; fail "coverage incomplete"; }
     echo "coverage complete: $(tail -n 1 "$work/coverage")"
 fi

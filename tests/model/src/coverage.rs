@@ -206,10 +206,10 @@ impl Coverage {
                     self.event("a freelancer joins a second room");
                 }
             }
-            Request::LeaveStaff { w, room, .. } if before.users[&w].led.contains(&room) => {
+            Request::LeaveStaff { w, room, .. } if before.users[&w].led.contains(room) => {
                 self.event("a lead leaves as a member")
             }
-            Request::Merge { v, .. } if before.drafts[&v].places.contains(&HOUSE) => {
+            Request::Merge { v, .. } if before.drafts[&v].places.contains(HOUSE) => {
                 self.event("Merge with the house already among the places")
             }
             Request::Remove { script, v, .. } if !after.drafts.contains_key(&v) => {
@@ -243,14 +243,14 @@ impl Coverage {
 pub fn report(seeds: &[u64], count: usize) -> bool {
     let mut all = Coverage::default();
     for seed in seeds {
-        all.run(&generate(*seed, count, 0), 0);
+        all.run(&generate(*seed, count, 0, false), 0);
     }
     let (requests, granted) = (all.requests, all.granted);
     // Refusal 11 needs an opening near the top; the program opens with 0, so these runs are the model's own.
     let mut near = Coverage::default();
     for seed in seeds.iter().take(40) {
         let opened = u32::MAX - (seed % 80) as u32;
-        near.run(&generate(*seed, count, opened), opened);
+        near.run(&generate(*seed, count, opened, false), opened);
     }
     let mut missing = Vec::new();
     for kind in KINDS {

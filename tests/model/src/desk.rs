@@ -1,7 +1,8 @@
 // The desk of document 01: records, the refusals row by row, effects, kept changes by replay.
 
+use crate::places::Places;
 use crate::request::Request::{self, *};
-use std::collections::{BTreeMap, BTreeSet};
+use std::collections::BTreeMap;
 
 pub const HOUSE: u8 = 0;
 pub const STAFF: u8 = 0;
@@ -15,8 +16,8 @@ pub struct User {
     pub sort: u8,
     pub level: u8,
     pub c: u16,
-    pub joined: BTreeSet<u8>,
-    pub led: BTreeSet<u8>,
+    pub joined: Places,
+    pub led: Places,
     pub administrator: bool,
 }
 
@@ -39,14 +40,14 @@ pub struct Session {
 #[derive(Clone, PartialEq, Eq, Debug)]
 pub struct Draft {
     pub script: u8,
-    pub places: BTreeSet<u8>,
+    pub places: Places,
 }
 
 /// The records of one house.
 #[derive(Clone, PartialEq, Eq, Debug, Default)]
 pub struct House {
     pub users: BTreeMap<u8, User>,
-    pub rooms: BTreeSet<u8>,
+    pub rooms: Places,
     pub scripts: BTreeMap<u8, Script>,
     pub sessions: BTreeMap<u8, Session>,
     pub drafts: BTreeMap<u32, Draft>,
@@ -72,6 +73,15 @@ impl Answer {
     pub fn granted(&self) -> bool {
         !matches!(self, Answer::Refused(..))
     }
+
+    /// The answer as the batch writes it.
+    pub fn bytes(&self) -> Vec<u8> {
+        let mut out = vec![self.byte()];
+        if let Answer::Numbered(number) = self {
+            out.extend(number.to_be_bytes());
+        }
+        out
+    }
 }
 
 /// A granted request with the number it was given; replay gives it the same number.
@@ -89,6 +99,8 @@ pub struct Desk {
     /// Every change not taken back, oldest first: all of them, not the last 32.
     pub changes: Vec<Change>,
     pub kept: usize,
+    /// The records after the changes that are kept no longer.
+    pub base: House,
 }
 
 type Clause = Option<&'static str>;
@@ -107,11 +119,20 @@ impl House {
     }
 
     fn leads(&self, u: u8, room: u8) -> bool {
-        self.user(u).led.contains(&room)
+        self.user(u).led.contains(room)
     }
 
-    fn places(&self, v: u32) -> &BTreeSet<u8> {
+    fn places(&self, v: u32) -> &Places {
         &self.drafts[&v].places
+    }
+
+    /// These records after the changes, oldest first.
+    pub fn replayed(&self, changes: &[Change]) -> House {
+        let mut house = self.clone();
+        for change in changes {
+            house.apply(&change.request, change.number);
+        }
+        house
     }
 
     /// The granted effect of a request, on records that grant it.
@@ -122,8 +143,8 @@ impl House {
                     sort,
                     level,
                     c,
-                    joined: BTreeSet::new(),
-                    led: BTreeSet::new(),
+                    joined: Places::default(),
+                    led: Places::default(),
                     administrator: admin == 1,
                 };
                 assert!(self.users.insert(new, user).is_none());
@@ -136,7 +157,7 @@ impl House {
                 self.users.get_mut(&w).unwrap().joined.insert(room);
             }
             LeaveStaff { w, room, .. } | LeaveOutsider { w, room, .. } => {
-                self.users.get_mut(&w).unwrap().joined.remove(&room);
+                self.users.get_mut(&w).unwrap().joined.remove(room);
                 self.sessions.retain(|_, s| !(s.owner == w && s.place == Some(room)));
             }
             JoinOutsider { w, room, level, c, .. } => {
@@ -152,7 +173,7 @@ impl House {
                 self.drafts.get_mut(&v).unwrap().places.insert(room);
             }
             Remove { v, room, .. } => {
-                self.drafts.get_mut(&v).unwrap().places.remove(&room);
+                self.drafts.get_mut(&v).unwrap().places.remove(room);
                 self.clear_empty();
             }
             Import { script2, .. } => self.issue(number, script2, HOUSE),
@@ -160,17 +181,20 @@ impl House {
                 self.drafts.get_mut(&v).unwrap().places.insert(HOUSE);
             }
             Disband { room, .. } => {
-                self.rooms.remove(&room);
+                self.rooms.remove(room);
                 for user in self.users.values_mut() {
-                    user.joined.remove(&room);
-                    user.led.remove(&room);
+                    user.joined.remove(room);
+                    user.led.remove(room);
                 }
                 self.sessions.retain(|_, s| s.place != Some(room));
-                let scripts = &mut self.scripts;
-                self.drafts.retain(|_, d| scripts[&d.script].origin != room);
-                scripts.retain(|_, s| s.origin != room);
+                let mut of_room = [false; 256];
+                for (n, script) in &self.scripts {
+                    of_room[*n as usize] = script.origin == room;
+                }
+                self.drafts.retain(|_, d| !of_room[d.script as usize]);
+                self.scripts.retain(|_, s| s.origin != room);
                 for draft in self.drafts.values_mut() {
-                    draft.places.remove(&room);
+                    draft.places.remove(room);
                 }
                 self.clear_empty();
             }
@@ -196,7 +220,7 @@ impl House {
     }
 
     fn issue(&mut self, number: Option<u32>, script: u8, place: u8) {
-        let draft = Draft { script, places: BTreeSet::from([place]) };
+        let draft = Draft { script, places: Places::only(place) };
         let earlier = self.drafts.insert(number.expect("a number was issued"), draft);
         assert!(earlier.is_none(), "two drafts with one number");
     }
@@ -209,23 +233,45 @@ impl House {
     /// A draft without places goes, then a script without drafts.
     fn clear_empty(&mut self) {
         self.drafts.retain(|_, d| !d.places.is_empty());
-        let named: BTreeSet<u8> = self.drafts.values().map(|d| d.script).collect();
-        self.scripts.retain(|n, _| named.contains(n));
+        let drafted = self.drafted();
+        self.scripts.retain(|n, _| drafted[*n as usize]);
+    }
+
+    /// For each script number, whether a draft names it.
+    pub fn drafted(&self) -> [bool; 256] {
+        let mut drafted = [false; 256];
+        for draft in self.drafts.values() {
+            drafted[draft.script as usize] = true;
+        }
+        drafted
     }
 }
 
 impl Desk {
     pub fn open(last: u32) -> Desk {
-        Desk { house: House::default(), last, changes: Vec::new(), kept: 0 }
+        Desk { house: House::default(), last, changes: Vec::new(), kept: 0, base: House::default() }
     }
 
-    /// The records after all changes not taken back, from the empty house.
+    /// The changes that are kept no longer, and those that are.
+    pub fn split(&self) -> (&[Change], &[Change]) {
+        self.changes.split_at(self.changes.len() - self.kept)
+    }
+
+    /// The records after the kept changes, from the base: replaying all changes at each Take back would make long runs slow.
     pub fn replay(&self) -> House {
-        let mut house = House::default();
-        for change in &self.changes {
-            house.apply(&change.request, change.number);
+        self.base.replayed(self.split().1)
+    }
+
+    /// Makes the change and keeps it; the oldest of more than 32 goes into the base.
+    fn change(&mut self, request: &Request, number: Option<u32>) {
+        self.house.apply(request, number);
+        self.changes.push(Change { request: *request, number });
+        if self.kept < MOST_KEPT {
+            self.kept += 1;
+        } else {
+            let oldest = &self.changes[self.changes.len() - 1 - MOST_KEPT];
+            self.base.apply(&oldest.request, oldest.number);
         }
-        house
     }
 
     pub fn answer(&mut self, request: &Request) -> Answer {
@@ -247,9 +293,7 @@ impl Desk {
                 } else {
                     None
                 };
-                self.house.apply(request, number);
-                self.changes.push(Change { request: *request, number });
-                self.kept = MOST_KEPT.min(self.kept + 1);
+                self.change(request, number);
                 number.map_or(Answer::Granted, Answer::Numbered)
             }
         }
@@ -313,7 +357,7 @@ impl Desk {
     fn row_4(&self, request: &Request) -> Clause {
         let h = &self.house;
         let user = |u: u8| when(!h.users.contains_key(&u), "no such user");
-        let room = |r: u8| when(!h.rooms.contains(&r), "no such room");
+        let room = |r: u8| when(!h.rooms.contains(r), "no such room");
         let script = |n: u8| when(!h.scripts.contains_key(&n), "no such script");
         let session = |s: u8| when(!h.sessions.contains_key(&s), "no such session");
         let draft = |n: u8, v: u32| match h.drafts.get(&v) {
@@ -351,7 +395,7 @@ impl Desk {
         let h = &self.house;
         match *request {
             Enrol { new, .. } => when(h.users.contains_key(&new), "user exists"),
-            Establish { room, .. } => when(h.rooms.contains(&room), "room exists"),
+            Establish { room, .. } => when(h.rooms.contains(room), "room exists"),
             OpenRoom { s, .. } | OpenHouse { s, .. } | OpenRo { s, .. } => {
                 when(h.sessions.contains_key(&s), "session exists")
             }
@@ -414,36 +458,36 @@ impl Desk {
         let h = &self.house;
         match *request {
             JoinStaff { w, room, .. } | JoinOutsider { w, room, .. } => {
-                when(h.user(w).joined.contains(&room), "already in")
+                when(h.user(w).joined.contains(room), "already in")
             }
             LeaveStaff { w, room, .. } | LeaveOutsider { w, room, .. } => {
-                when(!h.user(w).joined.contains(&room), "not in")
+                when(!h.user(w).joined.contains(room), "not in")
             }
-            Add { v, room, .. } => when(!h.places(v).contains(&HOUSE), "house not among the places")
-                .or(when(h.places(v).contains(&room), "room among the places")),
-            Remove { v, room, .. } => when(!h.places(v).contains(&room), "room not among the places"),
-            Merge { script, v, room, .. } => when(!h.places(v).contains(&room), "room not among the places")
+            Add { v, room, .. } => when(!h.places(v).contains(HOUSE), "house not among the places")
+                .or(when(h.places(v).contains(room), "room among the places")),
+            Remove { v, room, .. } => when(!h.places(v).contains(room), "room not among the places"),
+            Merge { script, v, room, .. } => when(!h.places(v).contains(room), "room not among the places")
                 .or(when(h.scripts[&script].origin != HOUSE, "origin not house")),
             Import { script1, script2, room, .. } => {
                 when(h.scripts[&script1].origin != room, "origin of script1 not the room")
                     .or(when(h.scripts[&script2].origin != HOUSE, "origin of script2 not the house"))
             }
-            OpenRoom { u, room, .. } => when(!h.user(u).joined.contains(&room), "u not in the room"),
+            OpenRoom { u, room, .. } => when(!h.user(u).joined.contains(room), "u not in the room"),
             Read { s, v, .. } => {
                 let session = &h.sessions[&s];
                 match session.place {
-                    Some(place) => when(!h.places(v).contains(&place), "RW: place not among them"),
+                    Some(place) => when(!h.places(v).contains(place), "RW: place not among them"),
                     None => {
                         let owner = h.user(session.owner);
                         let shared = !owner.joined.is_disjoint(h.places(v));
-                        let house = owner.sort == STAFF && h.places(v).contains(&HOUSE);
+                        let house = owner.sort == STAFF && h.places(v).contains(HOUSE);
                         when(!shared && !house, "RO: no place shared")
                     }
                 }
             }
             Update { s, v, .. } => {
                 let place = h.sessions[&s].place.expect("row 7 refused RO");
-                when(!h.places(v).contains(&place), "place not among them")
+                when(!h.places(v).contains(place), "place not among them")
             }
             _ => None,
         }

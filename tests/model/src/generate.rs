@@ -5,10 +5,14 @@ use crate::request::Request::{self, *};
 use crate::request::{body_length, frame, Frame, KINDS};
 
 /// Splitmix64: a run depends on its seed alone.
-struct Chance(u64);
+pub struct Chance(u64);
 
 impl Chance {
-    fn next(&mut self) -> u64 {
+    pub fn new(seed: u64) -> Chance {
+        Chance(seed)
+    }
+
+    pub fn next(&mut self) -> u64 {
         self.0 = self.0.wrapping_add(0x9E37_79B9_7F4A_7C15);
         let mut z = self.0;
         z = (z ^ (z >> 30)).wrapping_mul(0xBF58_476D_1CE4_E5B9);
@@ -16,11 +20,11 @@ impl Chance {
         z ^ (z >> 31)
     }
 
-    fn below(&mut self, n: usize) -> usize {
+    pub fn below(&mut self, n: usize) -> usize {
         (self.next() % n as u64) as usize
     }
 
-    fn percent(&mut self, n: usize) -> bool {
+    pub fn percent(&mut self, n: usize) -> bool {
         self.below(100) < n
     }
 
@@ -48,9 +52,9 @@ struct Player {
     labels: Vec<(u8, u16)>,
 }
 
-/// A run of `count` requests as bytes; some end in an unknown kind or a cut body.
-pub fn generate(seed: u64, count: usize, opened: u32) -> Vec<u8> {
-    let mut chance = Chance(seed);
+/// A run of `count` requests as bytes; some end in an unknown kind or a cut body, unless the run shall be whole.
+pub fn generate(seed: u64, count: usize, opened: u32, whole: bool) -> Vec<u8> {
+    let mut chance = Chance::new(seed);
     let style = STYLES[chance.below(STYLES.len())];
     let mut labels = vec![(7, 0xFFFF), (0, 0)];
     for _ in 0..3 {
@@ -66,7 +70,7 @@ pub fn generate(seed: u64, count: usize, opened: u32) -> Vec<u8> {
     let mut out = Vec::new();
     let mut in_a_row = 0;
     for ordinal in 0..count {
-        if ordinal + 1 == count && ending < 2 {
+        if ordinal + 1 == count && ending < 2 && !whole {
             player.end_badly(ending, &mut out);
             break;
         }
@@ -164,9 +168,9 @@ impl Player {
 
     /// A room and its lead.
     fn led_room(&mut self) -> Option<(u8, u8)> {
-        let rooms: Vec<u8> = self.desk.house.rooms.iter().copied().collect();
+        let rooms: Vec<u8> = self.desk.house.rooms.iter().collect();
         let room = self.chance.one_of(&rooms)?;
-        Some((room, self.users(|u| u.led.contains(&room))[0]))
+        Some((room, self.users(|u| u.led.contains(room))[0]))
     }
 
     fn session(&mut self, fits: impl Fn(&Session) -> bool) -> Option<u8> {
@@ -184,10 +188,15 @@ impl Player {
     /// A draft with its script.
     fn draft(&mut self, fits: impl Fn(&Draft, &Script) -> bool) -> Option<(u8, u32)> {
         let h = &self.desk.house;
+        // A table, since 256 searches for scripts made this the slowest step.
+        let mut scripts = [None; 64];
+        for (n, script) in &h.scripts {
+            scripts[*n as usize] = Some(script);
+        }
         let from: Vec<(u8, u32)> = h
             .drafts
             .iter()
-            .filter(|(_, d)| fits(d, &h.scripts[&d.script]))
+            .filter(|(_, d)| scripts[d.script as usize].is_some_and(|script| fits(d, script)))
             .map(|(v, d)| (d.script, *v))
             .collect();
         self.chance.one_of(&from)
@@ -222,40 +231,40 @@ impl Player {
             }
             0x02 => {
                 let u = self.user(|u| u.administrator)?;
-                let free: Vec<u8> = (1..=16).filter(|r| !self.desk.house.rooms.contains(r)).collect();
+                let free: Vec<u8> = (1..=16).filter(|r| !self.desk.house.rooms.contains(*r)).collect();
                 let room = if self.chance.percent(40) { free.last().copied()? } else { self.chance.one_of(&free)? };
                 Establish { u, room }
             }
             0x03 => {
                 let (room, u) = self.led_room()?;
-                let w = self.user(|w| w.sort == STAFF && !w.joined.contains(&room))?;
+                let w = self.user(|w| w.sort == STAFF && !w.joined.contains(room))?;
                 JoinStaff { u, w, room }
             }
             0x04 => {
                 let (room, u) = self.led_room()?;
-                let w = self.user(|w| w.sort == STAFF && w.joined.contains(&room))?;
+                let w = self.user(|w| w.sort == STAFF && w.joined.contains(room))?;
                 LeaveStaff { u, w, room }
             }
             0x05 => {
                 let (room, u) = self.led_room()?;
-                let w = self.user(|w| w.sort != STAFF && !w.joined.contains(&room))?;
+                let w = self.user(|w| w.sort != STAFF && !w.joined.contains(room))?;
                 let (level, c) = self.label();
                 JoinOutsider { u, w, room, level, c }
             }
             0x06 => {
                 let (room, u) = self.led_room()?;
-                let w = self.user(|w| w.sort == FREELANCER && w.joined.contains(&room))?;
+                let w = self.user(|w| w.sort == FREELANCER && w.joined.contains(room))?;
                 LeaveOutsider { u, w, room }
             }
             0x07 => {
                 let (room, u) = self.led_room()?;
                 let (script, v) =
-                    self.draft(|d, _| d.places.contains(&HOUSE) && !d.places.contains(&room))?;
+                    self.draft(|d, _| d.places.contains(HOUSE) && !d.places.contains(room))?;
                 Add { u, script, v, room }
             }
             0x08 => {
                 let (room, u) = self.led_room()?;
-                let (script, v) = self.draft(|d, _| d.places.contains(&room))?;
+                let (script, v) = self.draft(|d, _| d.places.contains(room))?;
                 Remove { u, script, v, room }
             }
             0x09 => {
@@ -270,7 +279,7 @@ impl Player {
             }
             0x0A => {
                 let (room, u) = self.led_room()?;
-                let (script, v) = self.draft(|d, s| s.origin == HOUSE && d.places.contains(&room))?;
+                let (script, v) = self.draft(|d, s| s.origin == HOUSE && d.places.contains(room))?;
                 Merge { u, script, v, room }
             }
             0x0B => {
@@ -279,7 +288,7 @@ impl Player {
             }
             0x10 => {
                 let u = self.user(|u| !u.joined.is_empty())?;
-                let joined: Vec<u8> = self.desk.house.users[&u].joined.iter().copied().collect();
+                let joined: Vec<u8> = self.desk.house.users[&u].joined.iter().collect();
                 let room = self.chance.one_of(&joined)?;
                 let s = self.free(|h, n| h.sessions.contains_key(&n))?;
                 let (level, c) = self.label_of(u);
@@ -302,10 +311,10 @@ impl Player {
                 let Session { owner, place, .. } = self.desk.house.sessions[&s];
                 let owner = self.desk.house.users[&owner].clone();
                 let (script, v) = self.draft(|d, _| match place {
-                    Some(place) => d.places.contains(&place),
+                    Some(place) => d.places.contains(place),
                     None => {
                         !d.places.is_disjoint(&owner.joined)
-                            || owner.sort == STAFF && d.places.contains(&HOUSE)
+                            || owner.sort == STAFF && d.places.contains(HOUSE)
                     }
                 })?;
                 Read { s, script, v }
@@ -314,7 +323,7 @@ impl Player {
                 let s = self.session(|s| s.place.is_some())?;
                 let session = self.desk.house.sessions[&s].clone();
                 let (script, v) = self.draft(|d, script| {
-                    d.places.contains(&session.place.unwrap())
+                    d.places.contains(session.place.unwrap())
                         && script.level == session.level
                         && script.c == session.c
                 })?;
@@ -328,7 +337,7 @@ impl Player {
             0x16 => {
                 let s = self.session(|_| true)?;
                 let Session { owner, place, .. } = self.desk.house.sessions[&s];
-                let lead = self.user(|u| place.is_some_and(|p| u.led.contains(&p)));
+                let lead = self.user(|u| place.is_some_and(|p| u.led.contains(p)));
                 let u = lead.filter(|_| self.chance.percent(50)).unwrap_or(owner);
                 Kill { u, s }
             }
@@ -362,7 +371,7 @@ impl Player {
         let (room, u) = self.led_room()?;
         Some(match self.chance.below(7) {
             0 => {
-                let (script, v) = self.draft(|d, _| d.places.contains(&HOUSE) && d.places.contains(&room))?;
+                let (script, v) = self.draft(|d, _| d.places.contains(HOUSE) && d.places.contains(room))?;
                 Add { u, script, v, room }
             }
             1 => {
@@ -372,7 +381,7 @@ impl Player {
             2 => {
                 let s = self.session(|s| s.place.is_some())?;
                 let place = self.desk.house.sessions[&s].place?;
-                let (script, v) = self.draft(|d, _| d.places.contains(&place))?;
+                let (script, v) = self.draft(|d, _| d.places.contains(place))?;
                 Update { s, script, v }
             }
             3 => {
@@ -419,7 +428,7 @@ impl Player {
         let house_only = self.chance.percent(50);
         let new_script = self.script(|s| !house_only || s.origin == HOUSE).unwrap_or(0);
         let new_draft = self.draft(|_, _| true).unwrap_or((0, 0));
-        let rooms: Vec<u8> = self.desk.house.rooms.iter().copied().collect();
+        let rooms: Vec<u8> = self.desk.house.rooms.iter().collect();
         let new_room = self.chance.one_of(&rooms).unwrap_or(1);
         let new_label = self.label();
         let field = self.chance.below(3);
@@ -504,10 +513,7 @@ impl Player {
     /// An unknown kind with bytes after it that must not be judged, or a cut body.
     fn end_badly(&mut self, ending: usize, out: &mut Vec<u8>) {
         if ending == 0 {
-            let unknown: Vec<u8> = (0..=255).filter(|k| body_length(*k).is_none()).collect();
-            let near: Vec<u8> = unknown.iter().copied().filter(|k| *k <= 0x22).collect();
-            let kind = if self.chance.percent(60) { self.chance.one_of(&near) } else { self.chance.one_of(&unknown) };
-            out.push(kind.unwrap());
+            out.push(unknown_kind(&mut self.chance));
             out.extend(TakeBack { u: 0 }.bytes());
         } else {
             let kind = self.chance.one_of(&KINDS).unwrap();
@@ -516,6 +522,14 @@ impl Player {
             out.extend(&bytes[..kept]);
         }
     }
+}
+
+/// An unknown kind, often one beside the known ones.
+pub fn unknown_kind(chance: &mut Chance) -> u8 {
+    let unknown: Vec<u8> = (0..=255).filter(|k| body_length(*k).is_none()).collect();
+    let near: Vec<u8> = unknown.iter().copied().filter(|k| *k <= 0x22).collect();
+    let kind = if chance.percent(60) { chance.one_of(&near) } else { chance.one_of(&unknown) };
+    kind.unwrap()
 }
 
 fn whole(bytes: &[u8]) -> Request {

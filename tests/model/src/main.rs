@@ -1,8 +1,12 @@
-// The program `model`: runs, generates, lists and measures runs of the desk.
+// The program `model`: runs, generates, lists and measures runs and batches of the desk.
 
+mod batch;
+mod batches;
 mod coverage;
 mod desk;
 mod generate;
+mod pieces;
+mod places;
 mod request;
 mod rules;
 
@@ -11,8 +15,11 @@ use std::io::{self, Read, Write};
 use std::process::ExitCode;
 
 const USAGE: &str = "model run [--opened N] < requests
-model generate SEED COUNT [--opened N] > requests
+model generate SEED COUNT [--opened N] [--whole] > requests
 model requests < requests        (ordinal and hex, a line each)
+model pieces < bytes > bytes     (the same bytes, written in odd pieces)
+model batch < cases              (NAME LAST ROOM PLACE REQUESTS, a line each)
+model batches SEED COUNT > cases
 model coverage COUNT SEED..";
 
 fn main() -> ExitCode {
@@ -23,14 +30,21 @@ fn main() -> ExitCode {
         opened = number;
         words.drain(at..at + 2);
     }
+    let whole = words.iter().any(|w| w == "--whole");
+    words.retain(|w| w != "--whole");
     let numbers: Option<Vec<u64>> = words.iter().skip(1).map(|w| w.parse().ok()).collect();
     let Some(numbers) = numbers else { return usage() };
     let done = match (words.first().map(String::as_str), numbers.as_slice()) {
         // With no word it stands in for the program.
         (None | Some("run"), []) => run(opened),
         (Some("generate"), [seed, count]) => {
-            io::stdout().write_all(&generate::generate(*seed, *count as usize, opened))
+            io::stdout().write_all(&generate::generate(*seed, *count as usize, opened, whole))
         }
+        (Some("pieces"), []) => input().and_then(|bytes| pieces::write(&bytes)),
+        (Some("batch"), []) => batch(),
+        (Some("batches"), [seed, count]) => batches::batches(*seed, *count as usize)
+            .map_err(io::Error::other)
+            .and_then(|text| io::stdout().write_all(text.as_bytes())),
         (Some("requests"), []) => requests(),
         (Some("coverage"), [count, seeds @ ..]) if !seeds.is_empty() => {
             return if coverage::report(seeds, *count as usize) { ExitCode::SUCCESS } else { ExitCode::FAILURE }
@@ -61,7 +75,7 @@ fn input() -> io::Result<Vec<u8>> {
 fn run(opened: u32) -> io::Result<()> {
     let bytes = input()?;
     let mut out = io::BufWriter::new(io::stdout().lock());
-    let mut desk = desk::Desk::open(opened);
+    let mut desk = rules::Checked::open(opened);
     let mut at = 0;
     for ordinal in 1.. {
         match frame(&bytes[at..]) {
@@ -76,7 +90,7 @@ fn run(opened: u32) -> io::Result<()> {
             }
             Frame::Whole(request, length) => {
                 at += length;
-                let answer = rules::checked(&mut desk, &request)
+                let answer = desk.answer(&request)
                     .map_err(|rule| io::Error::other(format!("request {ordinal}: {rule}")))?;
                 let (kind, byte) = (request.kind(), answer.byte());
                 match answer {
@@ -86,6 +100,14 @@ fn run(opened: u32) -> io::Result<()> {
             }
         }
     }
+    desk.replay_all().map_err(io::Error::other)?;
+    out.flush()
+}
+
+/// Prints what the batch leaves of each case.
+fn batch() -> io::Result<()> {
+    let mut out = io::BufWriter::new(io::stdout().lock());
+    batch::lines(&io::read_to_string(io::stdin())?, &mut out)?;
     out.flush()
 }
 

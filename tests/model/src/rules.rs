@@ -1,24 +1,24 @@
 // The record rules of document 01, clause by clause, and the model's checks of itself.
 
 use crate::desk::*;
-use crate::request::Request;
-use std::collections::BTreeSet;
+use crate::request::Request::{self, *};
+use std::collections::VecDeque;
 
 /// The first record rule that the records break.
 pub fn broken(h: &House, last: u32) -> Option<&'static str> {
-    let drafted: BTreeSet<u8> = h.drafts.values().map(|d| d.script).collect();
-    let place = |p: &u8| *p == HOUSE || h.rooms.contains(p);
+    let drafted = h.drafted();
+    let place = |p: u8| p == HOUSE || h.rooms.contains(p);
     let rules = [
         ("bounds of users", h.users.iter().all(|(n, u)| *n <= 63 && u.sort <= 2 && u.level <= 7)),
-        ("bounds of rooms", h.rooms.iter().all(|r| (1..=16).contains(r))),
+        ("bounds of rooms", h.rooms.iter().all(|r| (1..=16).contains(&r))),
         ("bounds of scripts", h.scripts.iter().all(|(n, s)| *n <= 63 && s.level <= 7)),
         ("bounds of sessions", h.sessions.iter().all(|(n, s)| *n <= 63 && s.level <= 7)),
         ("at most 256 live drafts", h.drafts.len() <= MOST_DRAFTS),
         ("rooms joined are there", h.users.values().all(|u| u.joined.is_subset(&h.rooms))),
         ("rooms led are there", h.users.values().all(|u| u.led.is_subset(&h.rooms))),
-        ("origins are there", h.scripts.values().all(|s| place(&s.origin))),
+        ("origins are there", h.scripts.values().all(|s| place(s.origin))),
         ("owners are there", h.sessions.values().all(|s| h.users.contains_key(&s.owner))),
-        ("places of sessions are there", h.sessions.values().all(|s| s.place.iter().all(place))),
+        ("places of sessions are there", h.sessions.values().all(|s| s.place.iter().all(|p| place(*p)))),
         ("scripts of drafts are there", h.drafts.values().all(|d| h.scripts.contains_key(&d.script))),
         ("places of drafts are there", h.drafts.values().all(|d| d.places.iter().all(place))),
         (
@@ -44,7 +44,7 @@ pub fn broken(h: &House, last: u32) -> Option<&'static str> {
             h.sessions.values().all(|s| match s.place {
                 None => true,
                 Some(HOUSE) => h.users[&s.owner].sort == STAFF,
-                Some(room) => h.users[&s.owner].joined.contains(&room),
+                Some(room) => h.users[&s.owner].joined.contains(room),
             }),
         ),
         (
@@ -58,51 +58,115 @@ pub fn broken(h: &House, last: u32) -> Option<&'static str> {
             "a room script's drafts in that room only",
             h.drafts.values().all(|d| {
                 let origin = h.scripts[&d.script].origin;
-                origin == HOUSE || d.places.len() == 1 && d.places.contains(&origin)
+                origin == HOUSE || d.places.len() == 1 && d.places.contains(origin)
             }),
         ),
         (
             "a house script's drafts with the house, or with exactly one room",
             h.drafts.values().all(|d| {
-                h.scripts[&d.script].origin != HOUSE || d.places.contains(&HOUSE) || d.places.len() == 1
+                h.scripts[&d.script].origin != HOUSE || d.places.contains(HOUSE) || d.places.len() == 1
             }),
         ),
         ("a place for each draft", h.drafts.values().all(|d| !d.places.is_empty())),
-        ("a draft for each script", h.scripts.keys().all(|n| drafted.contains(n))),
+        ("a draft for each script", h.scripts.keys().all(|n| drafted[*n as usize])),
         // No two alike: the number is the key, and issuing one that is there stops the model.
         ("draft numbers from 1 to the counter", h.drafts.keys().all(|v| (1..=last).contains(v))),
     ];
     rules.iter().find(|(_, holds)| !holds).map(|(name, _)| *name)
 }
 
-/// Answers the request and checks the step; a broken rule is named.
-pub fn checked(desk: &mut Desk, request: &Request) -> Result<Answer, String> {
-    let before = (desk.last, desk.kept, desk.changes.len());
-    let house = desk.house.clone();
-    let answer = desk.answer(request);
-    if let Some(rule) = broken(&desk.house, desk.last) {
-        return Err(format!("record rule broken: {rule}"));
+/// A desk that checks its every step. What is checked when:
+/// - each request: the counter, the kept count and the number of changes move as the answer says;
+/// - after a refusal or a Read: the records are those of before, which met the rules;
+/// - after a kept change: the record rules, and the records are the base with the kept changes replayed;
+/// - after a Take back: the record rules, and the records are those that stood before the change, kept as a copy;
+/// - each 100 requests, after the first thousand each time a tenth more are done, and at the end: base and records are
+///   those got by starting empty and applying every change not taken back.
+pub struct Checked {
+    pub desk: Desk,
+    /// The records before each kept change, oldest first.
+    before: VecDeque<House>,
+    /// How many were answered.
+    pub requests: usize,
+    /// The request after which all changes are next replayed.
+    due: usize,
+}
+
+/// The counter, the kept count and the number of changes.
+type Counts = (u32, usize, usize);
+
+fn hold(fact: bool, rule: &str) -> Result<(), String> {
+    if fact { Ok(()) } else { Err(rule.into()) }
+}
+
+impl Checked {
+    pub fn open(last: u32) -> Checked {
+        Checked { desk: Desk::open(last), before: VecDeque::new(), requests: 0, due: 100 }
     }
-    let silent = !answer.granted() || matches!(request, Request::Read { .. });
-    if silent {
-        // The records equalled their replay before, and nothing has moved.
-        if desk.house != house || before != (desk.last, desk.kept, desk.changes.len()) {
-            return Err("a refusal or Read changed the desk".into());
+
+    /// Answers the request and checks the step; a broken rule is named.
+    pub fn answer(&mut self, request: &Request) -> Result<Answer, String> {
+        let before = self.desk.house.clone();
+        let counts = self.counts();
+        let answer = self.desk.answer(request);
+        hold(moved(counts, request, &answer) == Some(self.counts()), "the counts did not move as answered")?;
+        match request {
+            _ if !answer.granted() => hold(self.desk.house == before, "a refusal changed the records")?,
+            Read { .. } => hold(self.desk.house == before, "a Read changed the records")?,
+            TakeBack { .. } => self.taken_back()?,
+            _ => self.changed(before)?,
         }
-    } else if !matches!(request, Request::TakeBack { .. }) && desk.house != desk.replay() {
-        // After a Take back the records are the replay itself.
-        return Err("the records are not the replay of the changes".into());
-    }
-    if desk.kept > MOST_KEPT || desk.kept > desk.changes.len() {
-        return Err("kept count out of bounds".into());
-    }
-    match answer {
-        Answer::Numbered(number) if number <= before.0 || number != desk.last => {
-            Err("draft numbers don't strictly increase".into())
+        self.requests += 1;
+        if self.requests == self.due {
+            self.replay_all()?;
+            self.due += 100.max(self.requests / 10);
         }
-        Answer::Granted | Answer::Refused(..) if desk.last != before.0 => {
-            Err("the counter moved without a number issued".into())
-        }
-        _ => Ok(answer),
+        Ok(answer)
     }
+
+    fn counts(&self) -> Counts {
+        (self.desk.last, self.desk.kept, self.desk.changes.len())
+    }
+
+    fn changed(&mut self, before: House) -> Result<(), String> {
+        self.rules()?;
+        hold(self.desk.house == self.desk.replay(), "the records are not the replay of the kept changes")?;
+        self.before.push_back(before);
+        if self.before.len() > MOST_KEPT {
+            self.before.pop_front();
+        }
+        Ok(())
+    }
+
+    fn taken_back(&mut self) -> Result<(), String> {
+        self.rules()?;
+        let before = self.before.pop_back().ok_or("a Take back without a kept change")?;
+        hold(self.desk.house == before, "a Take back did not restore the records")
+    }
+
+    fn rules(&self) -> Result<(), String> {
+        broken(&self.desk.house, self.desk.last).map_or(Ok(()), |rule| Err(format!("record rule broken: {rule}")))
+    }
+
+    /// From the empty house: the base after the changes kept no longer, the records after those that are.
+    pub fn replay_all(&self) -> Result<(), String> {
+        let (older, kept) = self.desk.split();
+        let base = House::default().replayed(older);
+        hold(base == self.desk.base, "the base is not the replay of the older changes")?;
+        hold(base.replayed(kept) == self.desk.house, "the records are not the replay of all changes")
+    }
+}
+
+/// The counts after the request was so answered; None where it could not be.
+fn moved((last, kept, changes): Counts, request: &Request, answer: &Answer) -> Option<Counts> {
+    Some(match (answer, request) {
+        (Answer::Refused(..), _) | (Answer::Granted, Read { .. }) => (last, kept, changes),
+        (Answer::Granted, TakeBack { .. }) => (last, kept.checked_sub(1)?, changes.checked_sub(1)?),
+        (Answer::Granted, _) if !issues(request) => (last, MOST_KEPT.min(kept + 1), changes + 1),
+        // The next one issued is one more.
+        (Answer::Numbered(number), _) if Some(*number) == last.checked_add(1) && issues(request) => {
+            (*number, MOST_KEPT.min(kept + 1), changes + 1)
+        }
+        _ => return None,
+    })
 }
