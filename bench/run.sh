@@ -1,36 +1,85 @@
 #!/bin/sh
-# Measures the program beside bench/desk.c on one stream of mixed requests: both read it from a file and write to /dev/null, in turn, and the best of
-# several runs counts. Prints requests a second and the ratio. Needs gcc and rustc; the stream comes from tests/model.
+# Measures the program beside bench/desk.c: mixed requests, what is copied, and the costs that could grow. Prints the results, and writes them into
+# bench/RESULTS.md too. Both programs read a stream from a file and write to /dev/null, in turn, and the best of several runs counts.
 #
 #   sh bench/run.sh [REQUESTS [RUNS]]
+#
+# Needs gcc, x86-64, and what tests/model needs, from which the mixed stream comes. A quiet machine is up to you.
 set -eu
 root=$(CDPATH='' cd -- "$(dirname -- "$0")/.." && pwd -P)
-requests=${1:-1000000} runs=${2:-7}
+requests=${1:-1000000} runs=${2:-9}
 for tool in gcc awk; do
     command -v "$tool" >/dev/null || { echo "bench: $tool is missing" >&2; exit 1; }
 done
+[ "$(uname -m)" = x86_64 ] || { echo "bench: both programs are measured on x86-64" >&2; exit 1; }
 work=$(mktemp -d)
 trap 'rm -rf "$work"' EXIT
 trap 'exit 1' HUP INT TERM
 
 "$root/desk" </dev/null >/dev/null
+desk=$root/target/bin/desk
 gcc -std=c99 -O2 -D_DEFAULT_SOURCE "$root/bench/desk.c" -o "$work/c"
+gcc -std=c99 -O2 "$root/bench/streams.c" -o "$work/streams"
+gcc -O2 -fno-builtin -fno-tree-loop-distribute-patterns -shared -fPIC "$root/bench/copies.c" -o "$work/copies.so"
 model=$(sh "$root/tests/build-model.sh")
 
-# One long run of the model's generator, to its last byte.
-"$model" generate 1 "$requests" --whole >"$work/stream"
-"$work/c" <"$work/stream" >"$work/c.out"
-"$root/desk" <"$work/stream" >"$work/desk.out"
-cmp "$work/c.out" "$work/desk.out" || { echo "bench: the two answer differently" >&2; exit 1; }
-count=$(wc -l <"$work/desk.out")
-
 now() { date +%s%N; }
-best_c=999999999999 best_desk=999999999999
-for i in $(seq "$runs"); do
-    a=$(now); "$work/c" <"$work/stream" >/dev/null; b=$(now); "$root/target/bin/desk" <"$work/stream" >/dev/null; c=$(now)
-    [ $((b - a)) -ge "$best_c" ] || best_c=$((b - a))
-    [ $((c - b)) -ge "$best_desk" ] || best_desk=$((c - b))
-done
-awk -v n="$count" -v c="$best_c" -v d="$best_desk" 'BEGIN {
-    printf "%d requests: C %.1f ms, %.2f million a second; desk %.1f ms, %.2f million a second; ratio %.2f\n", n, c / 1e6, n * 1e3 / c, d / 1e6, n * 1e3 / d, d / c
-}'
+
+# Nanoseconds of the C version and of the program on a stream that both answer alike.
+measure() {
+    "$work/c" <"$1" >"$work/c.out"
+    "$desk" <"$1" >"$work/desk.out"
+    cmp "$work/c.out" "$work/desk.out" >&2 || { echo "bench: the two answer differently" >&2; exit 1; }
+    best_c=999999999999 best_desk=999999999999
+    for i in $(seq "$runs"); do
+        a=$(now); "$work/c" <"$1" >/dev/null; b=$(now); "$desk" <"$1" >/dev/null; c=$(now)
+        [ $((b - a)) -ge "$best_c" ] || best_c=$((b - a))
+        [ $((c - b)) -ge "$best_desk" ] || best_desk=$((c - b))
+    done
+}
+
+# A row of the second table: what, how many of them, the stream's words.
+row() {
+    "$work/streams" $3 >"$work/one" 2>"$work/setup"
+    measure "$work/one"
+    awk -v what="$1" -v n="$2" -v c="$best_c" -v d="$best_desk" 'BEGIN { printf "| %s | %.0f | %.0f | %.2f |\n", what, c / n, d / n, d / c }'
+}
+
+results() {
+    echo "# Results"
+    echo
+    echo "Measured by bench/run.sh on $(date -u +%Y-%m-%d), $(awk -F ': ' '/^model name/ { print $2; exit }' /proc/cpuinfo), $(nproc) cores. Best of $runs runs, in turn."
+    echo
+    "$model" generate 1 "$requests" --whole >"$work/mixed"
+    measure "$work/mixed"
+    count=$(wc -l <"$work/desk.out")
+    awk -v n="$count" -v c="$best_c" -v d="$best_desk" '
+        $3 ~ /^8/ { granted++ } $2 == "20" && $3 == "80" { back++ }
+        END {
+            printf "%d mixed requests, %d granted, %d of them take-backs, lines printed:\n\n", n, granted, back
+            printf "| | milliseconds | requests a second |\n|---|---|---|\n"
+            printf "| C (gcc -O2) | %.1f | %.2f million |\n| desk | %.1f | %.2f million |\n\n", c / 1e6, n * 1e3 / c, d / 1e6, n * 1e3 / d
+            printf "Ratio: %.2f.\n", d / c
+        }' "$work/desk.out"
+    back=$(awk '$2 == "20" && $3 == "80" { n++ } END { print n + 0 }' "$work/desk.out")
+    LD_PRELOAD=$work/copies.so "$desk" <"$work/mixed" 2>"$work/copied" >/dev/null
+    echo
+    awk -v n="$count" -v back="$back" '{
+        printf "Copied by calls of memcpy (%d, %d bytes) and memmove (%d, %d bytes): %.1f bytes a request. ", $2, $3, $5, $6, ($3 + $6) / n
+        printf "Calls as large as a table: %d, %d bytes, for %d granted take-backs; without these %.1f bytes a request, the digits of the lines.\n", $8, $9, back, ($3 + $6 - $9) / n
+    }' "$work/copied"
+    echo
+    echo "Nanoseconds each, whole runs divided by their number:"
+    echo
+    echo "| | C | desk | ratio |"
+    echo "|---|---|---|---|"
+    row "a read, 16 live drafts" 1000000 "reads 16 1000000"
+    row "a read, 64 live drafts" 1000000 "reads 64 1000000"
+    row "a read, 256 live drafts" 1000000 "reads 256 1000000"
+    row "a session opened and taken back, 32 kept changes, full desk" 50000 "take-backs 50000"
+    row "a Disband of the full desk, taken back, 32 kept changes" 50000 "disbands 50000"
+}
+
+results >"$work/results"
+cat "$work/results"
+cp "$work/results" "$root/bench/RESULTS.md"

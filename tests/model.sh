@@ -15,7 +15,7 @@ fail() { echo "model.sh: $*" >&2; exit 1; }
 
 # A program named by the caller may be anything that runs here; the project's own may need the emulator.
 run_edges() {
-    if [ -n "${EDGES:-}" ]; then "$edges"; else sh "$root/tests/run-program.sh" "$edges"; fi
+    if [ -n "${EDGES:-}" ]; then "$edges"; else sh "$root/tools/run-program.sh" "$edges"; fi
 }
 
 # Once before all: a program that can't start, or builds itself first, is found here and not in every run.

@@ -4,14 +4,13 @@ use mathlib.Core.Bool.{Bool, true, false, cond}
 use mathlib.Core.List.{List, [], _∷_, _++_, append-assoc}
 use Prim.Native.Nat.{ℕ, _+_, _≤_, _<_}
 use native.Mathlib.Omega.{arith}
-use lib.Dec.{T, leb, leb→le}
+use lib.Dec.{leb}
 use lib.ListN.{length, drop}
 use borrow.Author.Tests.{leb-true, leb-false}
 use Rattle.request.specs.Bytes.{_#_}
 use Rattle.request.specs.Kinds.{Row, Sought, at, none, rows, find, lengthAt, bodyLength}
 use Rattle.request.specs.Reading.{fieldsFrom, frameAt, frameOf}
 use Rattle.request.specs.Writing.{written}
-use Rattle.request.specs.declared.Frame.{Frame}
 use Rattle.request.specs.declared.Frame.the-variants.{Whole, Unknown, Cut}
 use Rattle.request.specs.declared.Request.{Request}
 use Rattle.request.proofs.Rows.{Each, _&_, found}

@@ -5,7 +5,7 @@ use mathlib.Core.List.{List, [], _∷_, _++_, append-assoc, append-nil}
 use Prim.Native.Nat.{ℕ, zero, suc, _+_, _-_, _*_, _≤_, _<_}
 use native.Mathlib.Omega.{arith}
 use native.Mathlib.Numerals.{add-one}
-use lib.ListN.{length, take, drop, length-append, length-drop}
+use lib.ListN.{length, take, drop, length-drop}
 use lib.Seq.{take-add, drop-at, drop-length, length-take-le, take-all, drop-drop, drop-append-le}
 use Rattle.request.specs.Bytes.{_#_}
 use Rattle.request.specs.Kinds.{bodyLength}
@@ -19,7 +19,7 @@ use Rattle.history.specs.Desk.{deskRules}
 use Rattle.history.specs.declared.Answer.{Answer}
 use Rattle.history.specs.declared.Answer.the-variants.{Refused}
 use Rattle.desk.specs.Lines.{lineOf, Put}
-use Rattle.desk.specs.Printed.{printedFrom, byFrame, printed}
+use Rattle.desk.specs.Printed.{printedFrom, printed}
 use Rattle.desk.specs.Pieces.{soFar, Went, Left, NextIs, AllIs}
 use Rattle.desk.specs.declared.answers.Progress.{Progress}
 use Rattle.desk.proofs.Texts.{line-short}

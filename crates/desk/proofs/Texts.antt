@@ -1,8 +1,8 @@
 -- Numbers in decimal, texts put into a buffer, and bytes moved to its front.
 use mathlib.Core.Path.{_≡_, refl, sym, ap, _∙_, subst}
 use mathlib.Core.Bool.{Bool, true, false, cond}
-use mathlib.Core.List.{List, [], _∷_, _++_, append-assoc}
-use Prim.Native.Nat.{ℕ, zero, suc, _+_, _-_, _/_, _%_, _^_, _≤_, _<_}
+use mathlib.Core.List.{List, _++_, append-assoc}
+use Prim.Native.Nat.{ℕ, zero, suc, _+_, _-_, _/_, _^_, _≤_, _<_}
 use native.Mathlib.Omega.{arith}
 use native.Mathlib.Nat.{zero-add, add-comm, pow-le-pow-right}
 use native.Mathlib.Numerals.{add-one}
@@ -11,11 +11,10 @@ use lib.Dec.{ltb}
 use lib.ListN.{length, take, drop, getD, set, length-append, length-drop}
 use lib.Seq.{take-at, take-length, length-take-le, paste, paste-suc, take-paste, drop-paste, getD-drop}
 use borrow.Author.Tests.{ltb-true, ltb-false}
-use Rattle.io.specs.Digits.{digits, glyph, Fewest}
-use Rattle.io.specs.Counts.{Counts}
+use Rattle.io.specs.Digits.{digits, Fewest}
 use Rattle.history.specs.declared.Answer.{Answer}
 use Rattle.history.specs.declared.Answer.the-variants.{Granted, Numbered, Refused}
-use Rattle.desk.specs.Lines.{placesTo, decimal, middleOf, byteOf, numberOf, lineOf, Put}
+use Rattle.desk.specs.Lines.{placesTo, decimal, numberOf, lineOf, Put}
 
 -- ---- decimal digits
 digits-count : (k n : ℕ) → length (digits 10 k n) ≡ k

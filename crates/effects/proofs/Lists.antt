@@ -1,7 +1,7 @@
 -- What each shape of loop has done to a list after i turns: a map in place, a filter by moving up, a search.
 use Prim.Native.Nat.{ℕ, suc, _+_, _≤_, _<_}
 use mathlib.Core.Path.{_≡_, refl, sym, ap, _∙_}
-use mathlib.Core.Bool.{Bool, true, false, cond, _||_}
+use mathlib.Core.Bool.{Bool, true, false, cond, _||_, or-false, or-comm}
 use mathlib.Core.List.{List, [], _∷_, _++_, map, append-assoc, append-nil}
 use native.Mathlib.Numerals.{add-one}
 use native.Mathlib.Nat.{add-zero, zero-add, add-suc, suc-add}
@@ -107,14 +107,6 @@ module _ {A : Type 0} (p : A → Bool) where
     pub moved-all : (i n : ℕ) (a : List A) → MovedUp p l i n a → length l ≤ i → take n a ≡ keep p l
     moved-all i n a m h = m .front ∙ rw (take-all i l h)
 
-or-true : (b : Bool) → (b || true) ≡ true
-or-true true = refl
-or-true false = refl
-
-or-false : (b : Bool) → (b || false) ≡ b
-or-false true = refl
-or-false false = refl
-
 -- ---- marks at the keys of the elements passed: of i elements of l each has marked the place of its key, below n
 pub record Marked {A : Type 0} (key : A → ℕ) (n : ℕ) (l : List A) (i : ℕ) (m : List Bool) : Type 0 where
   pub size : length m ≡ n
@@ -143,7 +135,7 @@ module _ {A : Type 0} (key : A → ℕ) (n : ℕ) (l : List A) where
         go k true q is =
             let same : x ≡ k = eqb-true x k q in
             let there : getD (set m x true) k false ≡ true = ap (λ (j : ℕ). getD (set m x true) j false) (sym same) ∙ getD-set-same m x true false (omega (arith, before .size)) in
-            rw there (sym (or-true (getD m k false)) ∙ (rw q at is))
+            rw there (sym (or-comm (getD m k false) true) ∙ (rw q at is))
         go k false q is = rw (getD-set-other m x k true false (λ z. eqb-false x k q (sym z))) (rw q at is)
 
   pub marked-all : (i : ℕ) (m : List Bool) → length l ≤ i → Marked key n l i m → (k : ℕ) → k < n → getD m k false ≡ any (λ x. eqb (key x) k) l

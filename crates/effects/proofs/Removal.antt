@@ -1,12 +1,12 @@
 -- Remove, where the draft is found: a place is left, or it was the last.
-use mathlib.Core.Path.{_≡_, refl, sym, ap, _∙_}
+use mathlib.Core.Path.{_≡_, sym, ap, _∙_}
 use Prim.Native.Nat.{ℕ}
 use borrow.Author.Tests.{eq-eqb, ne-eqb}
 use Rattle.records.specs.House.{House, draftAt, putDraft}
 use Rattle.records.specs.Lookups.{findDraft, atFound}
 use Rattle.records.specs.declared.Draft.{Draft}
 use Rattle.records.specs.declared.Found.{Found}
-use Rattle.records.specs.declared.Found.the-variants.{At, Nothing}
+use Rattle.records.specs.declared.Found.the-variants.{At}
 use Rattle.effects.specs.Elements.{unplaced}
 use Rattle.effects.specs.Effects.{lessOne, swept, removed}
 

@@ -1,6 +1,6 @@
 -- The effect of every kind of request: 01's column "Granted effect", a clause a row.
 use Prim.Native.Nat.{ℕ}
-use mathlib.Core.Bool.{Bool, cond, _&&_, not}
+use mathlib.Core.Bool.{cond, _&&_, not}
 use mathlib.Core.List.{List, map}
 use Rattle.records.specs.Lists.{any, keep, mapFrom}
 use Rattle.records.specs.Places.{with, without, only}

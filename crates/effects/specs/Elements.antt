@@ -1,6 +1,6 @@
 -- What a granted request makes of one user, session, script or draft. The quoted words are those of 01's column "Granted effect".
 use Prim.Native.Nat.{ℕ}
-use mathlib.Core.Bool.{Bool, true, false, cond, _&&_, not}
+use mathlib.Core.Bool.{Bool, true, false, cond, _&&_}
 use lib.Dec.{eqb}
 use Rattle.records.specs.Places.{with, without}
 use Rattle.records.specs.House.{noScript, noSession, freelancer, noPlace}

@@ -1,5 +1,5 @@
 -- What the functions' proofs cite: the oldest change, a change that is kept, the number that was issued.
-use mathlib.Core.Path.{_≡_, refl, sym, ap, _∙_}
+use mathlib.Core.Path.{_≡_, refl}
 use mathlib.Core.Bool.{Bool, true, false, cond}
 use mathlib.Core.List.{List, [], _∷_, _++_, foldl}
 use Prim.Native.Nat.{ℕ, _+_, _<_}
@@ -11,7 +11,6 @@ use Rattle.effects.specs.Effects.{applied}
 use Rattle.effects.specs.declared.Change.{Change}
 use Rattle.log.specs.Log.{pushed}
 use Rattle.counter.specs.Numbers.{top, nextAfter, lastAfter}
-use Rattle.counter.specs.declared.Next.{Next}
 use Rattle.counter.specs.declared.Next.the-variants.{Number, Spent}
 use Rattle.history.specs.Machine.{Desk, keep}
 use Rattle.history.specs.Desk.{deskRules, settled}

@@ -4,9 +4,9 @@ use mathlib.Core.Path.{_≡_, refl, sym, ap, _∙_}
 use mathlib.Core.List.{List, [], _∷_, _++_}
 use native.Mathlib.Omega.{arith}
 use native.Mathlib.Decide.{decLe}
-use lib.ListN.{length, getD, set, take, drop, length-set, length-append, length-take, length-drop, List·getD-append, List·getD-eq-default}
-use lib.Seq.{getD-set-same, getD-set-other, ext-getD, getD-take, getD-drop, getD-append-add, getD-at}
-use Rattle.records.specs.Tables.{Table, at, putAt, tabulate}
+use lib.ListN.{length, getD, set, take, drop, length-append, length-take, length-drop, List·getD-append}
+use lib.Seq.{getD-set-same, getD-set-other, ext-getD, getD-take, getD-drop, getD-at}
+use Rattle.records.specs.Tables.{at, putAt, tabulate}
 use Rattle.records.proofs.Tables.{Laid, length-tabulate, getD-tabulate, length-puts, same-put, put-here, put-other, same-set}
 use Rattle.request.specs.Bytes.{_#_, quad}
 use Rattle.request.specs.Reading.{requestOf}
@@ -14,7 +14,7 @@ use Rattle.request.specs.Writing.{framed}
 use Rattle.request.specs.declared.Request.{Request}
 use Rattle.request.proofs.RoundTrip.{framed-length, framed-makes, quad-forth}
 use Rattle.effects.specs.declared.Change.{Change}
-use Rattle.log.specs.Log.{changeTable, past, noChange, pushed, popped}
+use Rattle.log.specs.Log.{changeTable, past, noChange}
 
 -- ---- a change and its 13 bytes
 spelt : (l : List ℕ) → tabulate (length l) (λ i. l # i) ≡ l

@@ -3,12 +3,11 @@ use Prim.Native.Nat.{ℕ, _+_, _-_, _%_, min}
 use mathlib.Core.Bool.{cond}
 use mathlib.Core.List.{List, [], _∷_, _++_}
 use lib.Dec.{ltb}
-use lib.ListN.{length, getD, take, drop}
+use lib.ListN.{length, take, drop}
 use Rattle.records.specs.Tables.{Table, at, tabulate}
 use Rattle.request.specs.Bytes.{_#_, quad, quadBytes}
 use Rattle.request.specs.Reading.{requestOf}
 use Rattle.request.specs.Writing.{framed}
-use Rattle.request.specs.declared.Request.{Request}
 use Rattle.request.specs.declared.Request.the-variants.{TakeBack}
 use Rattle.effects.specs.declared.Change.{Change}
 

@@ -1,17 +1,16 @@
 -- The desk and the book agree: one request keeps them so, and gets the same answer from both.
 use mathlib.Core.Path.{_≡_, refl, sym, ap, _∙_, subst}
 use mathlib.Core.Bool.{Bool, true, false, cond}
-use mathlib.Core.List.{List, [], _∷_, _++_, append-assoc, append-nil, foldl, foldl-append}
-use Prim.Native.Nat.{ℕ, zero, suc, _+_, _-_, _≤_, _<_, min}
+use mathlib.Core.List.{List, [], _∷_, _++_, append-assoc, foldl-append}
+use Prim.Native.Nat.{ℕ, suc, _+_, _-_, _≤_, _<_}
 use native.Mathlib.Omega.{arith}
 use lib.Dec.{eqb, ltb}
 use lib.ListN.{length, take, drop, length-append, length-take, length-drop, take-append-drop}
-use borrow.Author.Tests.{ltb-true, ltb-false, eqb-true, eqb-false}
+use borrow.Author.Tests.{ltb-true, ltb-false, eqb-false}
 use Rattle.counter.specs.Numbers.{nextAfter}
 use Rattle.counter.specs.declared.Next.{Next}
 use Rattle.counter.specs.declared.Next.the-variants.{Number, Spent}
-use Rattle.history.specs.declared.Answer.{Answer}
-use Rattle.history.specs.declared.Answer.the-variants.{Granted, Numbered, Refused}
+use Rattle.history.specs.declared.Answer.the-variants.{Granted, Refused}
 use Rattle.history.specs.Machine.{Verdict, refuse, pass, make, issue, undo, Rulebook, Desk, Outcome, outcome, opened, after, keep, takeBack, issued, ruled, step}
 use Rattle.promises.specs.Book.{Book, Entry, entry, blank, recordsOf, enter, strike, numbered, noted, note}
 

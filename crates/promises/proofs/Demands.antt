@@ -1,10 +1,10 @@
 -- Demands 2 and 3 of this desk: at any desk, and over any requests from any opening.
-use mathlib.Core.Path.{_≡_, refl, sym, ap, _∙_, subst}
+use mathlib.Core.Path.{_≡_, refl, ap, _∙_}
 use mathlib.Core.Bool.{Bool, true, false, cond}
 use mathlib.Core.List.{List, [], _∷_, _++_, foldl}
-use Prim.Native.Nat.{ℕ, _+_, _-_, _≤_, _<_}
+use Prim.Native.Nat.{ℕ, _+_}
 use native.Mathlib.Omega.{arith}
-use lib.Dec.{eqb, ltb}
+use lib.Dec.{ltb}
 use lib.ListN.{length, take, drop}
 use borrow.Author.Tests.{eq-eqb, ne-eqb}
 use Rattle.request.specs.declared.Request.{Request}
@@ -17,11 +17,11 @@ use Rattle.judge.specs.Kinds.{linesOf, grantOf, rulingOf}
 use Rattle.judge.specs.declared.Ruling.{Ruling}
 use Rattle.judge.specs.declared.Ruling.the-variants.{Pass, Keep, KeepNumbered}
 use Rattle.judge.proofs.Order.{granted-exactly, refused-exactly}
-use Rattle.counter.specs.Numbers.{top, nextAfter}
-use Rattle.history.specs.Machine.{Verdict, pass, make, issue, undo, Desk, Outcome, outcome, opened, keep, issued, ruled, step, run, answers}
+use Rattle.counter.specs.Numbers.{top}
+use Rattle.history.specs.Machine.{pass, make, issue, undo, Desk, outcome, opened, keep, issued, ruled, step, run, answers}
 use Rattle.history.specs.Desk.{changeOf, verdictOf, deskRules}
 use Rattle.history.specs.declared.Answer.{Answer}
-use Rattle.promises.specs.Book.{blank, bookAfter, numbers, Rising, Event, kept, back, nothing, events, survive, keptCount, Shows}
+use Rattle.promises.specs.Book.{blank, bookAfter, numbers, Rising, kept, back, nothing, events, survive, keptCount, Shows}
 use Rattle.promises.specs.Events.{grantShows, eventOf}
 use Rattle.promises.proofs.Granted.{conditions}
 use Rattle.promises.proofs.Runs.{records-are-survivors, numbers-rise}

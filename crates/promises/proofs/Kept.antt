@@ -10,9 +10,9 @@ use lib.ListN.{length}
 use borrow.Author.Tests.{eqb-true, eq-eqb, leb-true, ltb-true, not-true}
 use Rattle.records.specs.Places.{has}
 use Rattle.records.specs.House.{House, emptyHouse, house, staff, outsider, user, script}
-use Rattle.records.specs.Rules.{rules}
+use Rattle.promises.specs.Rules.{rules}
 use Rattle.records.specs.declared.User.{User}
-use Rattle.records.proofs.Empty.{empty-meets}
+use Rattle.promises.proofs.Empty.{empty-meets}
 use Rattle.request.specs.declared.Request.{Request}
 use Rattle.request.specs.declared.Request.the-variants.{Enrol, Establish, JoinStaff, LeaveStaff, JoinOutsider, LeaveOutsider, Add, Remove, Import, Merge, Disband, OpenInRoom, OpenInHouse, OpenReadOnly, Read, Update, Create, Kill, TakeBack}
 use Rattle.effects.specs.Effects.{effect}

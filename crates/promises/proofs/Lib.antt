@@ -3,6 +3,7 @@ pub mod Bools
 pub mod Lists
 pub mod Sets
 pub mod Rules
+pub mod Empty
 pub mod Meaning
 pub mod Granted
 pub mod Parts

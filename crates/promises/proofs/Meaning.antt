@@ -12,7 +12,7 @@ use Rattle.records.specs.Lists.{any, all, count}
 use Rattle.records.specs.Places.{has, with, only, within}
 use Rattle.records.specs.House.{House, noUser, noScript, noSession, house, noPlace, staff, outsider, user, script, session}
 use Rattle.records.specs.Lookups.{ofScript, placed}
-use Rattle.records.specs.Rules.{_implies_, roomNumbers, isPlace, places, roomsThere, sessionThere, originThere, draftThere, administered, ownedWell, ascending, labelFits, userFits, scriptFits, sessionFits, bounded, namedThere, rules}
+use Rattle.promises.specs.Rules.{_implies_, roomNumbers, isPlace, places, roomsThere, sessionThere, originThere, draftThere, administered, ownedWell, ascending, labelFits, userFits, scriptFits, sessionFits, bounded, namedThere, rules}
 use Rattle.records.specs.declared.User.{User}
 use Rattle.records.specs.declared.Script.{Script}
 use Rattle.records.specs.declared.Session.{Session}

@@ -6,7 +6,7 @@ use mathlib.Core.List.{List, [], _∷_}
 use native.Mathlib.Omega.{arith}
 use lib.ListN.{length, getD}
 use Rattle.records.specs.House.{House, noDraft, draftAt}
-use Rattle.records.specs.Rules.{rules}
+use Rattle.promises.specs.Rules.{rules}
 use Rattle.records.specs.declared.Draft.{Draft}
 use Rattle.promises.proofs.Rules.{Ascending}
 use Rattle.promises.proofs.Meaning.{rules-are}

@@ -12,7 +12,7 @@ use borrow.Author.Tests.{eqb-false}
 use Rattle.request.specs.declared.Request.{Request}
 use Rattle.records.specs.Lists.{all}
 use Rattle.records.specs.House.{House}
-use Rattle.records.specs.Rules.{rules}
+use Rattle.promises.specs.Rules.{rules}
 use Rattle.effects.specs.Effects.{applied}
 use Rattle.effects.specs.declared.Change.{Change}
 use Rattle.judge.specs.declared.Ruling.{Ruling}

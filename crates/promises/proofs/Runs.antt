@@ -1,20 +1,19 @@
 -- Demand 3 over any run of requests from an opening: the records, the answers, the take-backs and the numbers.
-use mathlib.Core.Path.{_≡_, refl, sym, ap, _∙_, subst}
+use mathlib.Core.Path.{_≡_, refl, sym, subst}
 use mathlib.Core.Bool.{Bool, true, false, cond}
-use mathlib.Core.List.{List, [], _∷_, _++_, foldl}
-use Prim.Native.Nat.{ℕ, _+_, _-_, _≤_, _<_, min}
+use mathlib.Core.List.{List, [], _∷_}
+use Prim.Native.Nat.{ℕ, _+_, _-_, _<_}
 use native.Mathlib.Omega.{arith}
 use lib.Dec.{eqb}
 use lib.ListN.{length, take}
-use borrow.Author.Tests.{eqb-true, eqb-false}
 use Rattle.counter.specs.Numbers.{top, nextAfter}
 use Rattle.counter.specs.declared.Next.{Next}
 use Rattle.counter.specs.declared.Next.the-variants.{Number, Spent}
 use Rattle.history.specs.declared.Answer.{Answer}
-use Rattle.history.specs.declared.Answer.the-variants.{Granted, Numbered, Refused}
-use Rattle.history.specs.Machine.{Verdict, refuse, pass, make, issue, undo, Rulebook, Desk, Outcome, opened, after, keep, takeBack, issued, ruled, step, run, answers}
-use Rattle.promises.specs.Book.{Book, Entry, entry, blank, recordsOf, enter, strike, numbered, noted, note, bookAfter, bookAnswers, numbers, Rising, Event, kept, back, nothing, events, survive, keptCount, Shows}
-use Rattle.promises.proofs.Agrees.{Agrees, opened-agrees, Same, step-same}
+use Rattle.history.specs.declared.Answer.the-variants.{Granted, Refused}
+use Rattle.history.specs.Machine.{Verdict, refuse, pass, make, issue, undo, Rulebook, Desk, opened, after, step, run, answers}
+use Rattle.promises.specs.Book.{Book, Entry, entry, blank, recordsOf, enter, numbered, noted, note, bookAfter, bookAnswers, numbers, Rising}
+use Rattle.promises.proofs.Agrees.{Agrees, opened-agrees, step-same}
 
 -- ---- numbers: what follows the last number is larger
 next-larger : (last n : ℕ) → nextAfter last ≡ Number n → last < n

@@ -10,7 +10,7 @@ use lib.Dec.{eqb}
 use lib.Pow.{pow-mono}
 use borrow.Author.Tests.{eqb-true, eq-eqb, ne-eqb}
 use Rattle.records.specs.Places.{has, with, without, only, within}
-use Rattle.records.specs.Rules.{roomNumbers}
+use Rattle.promises.specs.Rules.{roomNumbers}
 use Rattle.records.specs.Lists.{any, all}
 use Rattle.records.proofs.Places.{has-same, has-none, has-with, has-without, has-only, without-only, within-has, has-within}
 use Rattle.promises.proofs.Bools.{clash, Is, said, itself}

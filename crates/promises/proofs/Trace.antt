@@ -1,21 +1,20 @@
 -- Demand 3 once more, over requests and answers alone, and what a take-back does.
 use mathlib.Core.Path.{_≡_, refl, sym, ap, _∙_, subst}
 use mathlib.Core.Bool.{Bool, true, false, cond}
-use mathlib.Core.List.{List, [], _∷_, _++_}
-use Prim.Native.Nat.{ℕ, _+_, _-_, _≤_, _<_, min}
-use native.Mathlib.Omega.{arith}
+use mathlib.Core.List.{List, [], _∷_}
+use Prim.Native.Nat.{ℕ, _-_}
 use lib.Dec.{eqb}
 use lib.ListN.{length, take}
-use borrow.Author.Tests.{eq-eqb, ne-eqb, eqb-true, eqb-false}
+use borrow.Author.Tests.{eq-eqb, ne-eqb}
 use Rattle.counter.specs.Numbers.{nextAfter}
 use Rattle.counter.specs.declared.Next.{Next}
 use Rattle.counter.specs.declared.Next.the-variants.{Number, Spent}
 use Rattle.history.specs.declared.Answer.{Answer}
-use Rattle.history.specs.declared.Answer.the-variants.{Granted, Numbered, Refused}
+use Rattle.history.specs.declared.Answer.the-variants.{Granted, Refused}
 use Rattle.history.specs.Machine.{Verdict, refuse, pass, make, issue, undo, Rulebook, Desk, Outcome, outcome, opened, after, takeBack, ruled, step, run, answers}
-use Rattle.promises.specs.Book.{Book, Entry, entry, blank, recordsOf, enter, strike, numbered, noted, note, bookAfter, bookAnswers, numbers, Rising, Event, kept, back, nothing, events, survive, keptCount, Shows}
-use Rattle.promises.proofs.Agrees.{Agrees, opened-agrees, Same, step-same}
-use Rattle.promises.proofs.Runs.{run-agrees, records-are-survivors, answers-are-the-books, numbers-rise}
+use Rattle.promises.specs.Book.{Book, Entry, entry, blank, recordsOf, numbered, noted, note, bookAfter, bookAnswers, Event, events, survive, keptCount, Shows}
+use Rattle.promises.proofs.Agrees.{opened-agrees}
+use Rattle.promises.proofs.Runs.{run-agrees, records-are-survivors, answers-are-the-books}
 
 -- what a granted take-back leaves
 pub record TakenBack {S C Q : Type 0} (R : Rulebook S C Q) (d : Desk S C) (o : Outcome S C) : Type 0 where

@@ -1,5 +1,4 @@
 -- What a request and its answer show to have happened on this desk. 01: "Kept changes: every granted request but Read and Take back."
-use Prim.Native.Nat.{ℕ}
 use Rattle.request.specs.declared.Request.{Request}
 use Rattle.effects.specs.declared.Change.{Change}
 use Rattle.judge.specs.Kinds.{grantOf}

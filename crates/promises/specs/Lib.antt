@@ -2,3 +2,4 @@
 pub mod Fits
 pub mod Book
 pub mod Events
+pub mod Rules

@@ -3,4 +3,3 @@ pub mod Tables
 pub mod Views
 pub mod Places
 pub mod Lookups
-pub mod Empty

@@ -1,15 +1,13 @@
 -- Sets of places: which places a set has, and what one place more, one place less and a set within another are by that.
 use Prim.Native.Nat.{ℕ, zero, suc, _+_, _-_, _*_, _/_, _%_, _^_, _≤_, _<_, min, max}
 use mathlib.Core.Path.{_≡_, refl, sym, ap, _∙_}
-use mathlib.Core.Logic.{_⊎_, inl, inr}
 use mathlib.Core.Bool.{Bool, true, false, cond, not, _&&_, _||_, or-false, or-comm}
 use native.Mathlib.Omega.{arith}
-use native.Mathlib.Nat.{pow-suc, pow-succ', div-one, div-div-eq-div-mul, mul-mod-left, div-eq-of-lt, div-self, mul-div-cancel-left, add-comm, zero-div, two-pow-succ, zero-mul, one-mul, mod-eq-of-lt, lt-of-lt-of-le}
-use native.Mathlib.Numerals.{add-one}
+use native.Mathlib.Nat.{pow-suc, pow-succ', div-one, div-div-eq-div-mul, mul-mod-left, div-eq-of-lt, div-self, mul-div-cancel-left, zero-div, one-mul, mod-eq-of-lt, lt-of-lt-of-le}
 use native.Mathlib.Decide.{ℕ-discrete, decLe}
 use lib.Dec.{eqb, ltb}
 use lib.Pow.{pow-pos, pow-lt, pow-mono, pow-add}
-use lib.Bits.{bitAnd, bitOr, and-step, or-step, and-le-l, or-shr, and-shr, and-self, and-high, or-lt}
+use lib.Bits.{bitAnd, bitOr, and-step, or-step, and-le-l, or-shr, and-shr, and-self}
 use borrow.Author.Tests.{eqb-true, eqb-false, eq-eqb, ne-eqb, lt-ltb, le-ltb}
 use Rattle.records.specs.Places.{has, with, without, only, within}
 
@@ -143,30 +141,10 @@ module _ (s p : ℕ) where
   pub has-without : p ≤ 31 → (q : ℕ) → has (without s p) q ≡ (has s q && not (eqb p q))
   has-without h q = rw (without-in h, has-less s (2 ^ p) q, power-has p q)
 
-  -- sets of 32 bits stay such
-  pub with-fits : s < 2 ^ 32 → with s p < 2 ^ 32
-  with-fits f = go (decLe p 31)
-    where
-      go : Dec (p ≤ 31) → with s p < 2 ^ 32
-      go (yes h) = rw (with-in h) (or-lt 32 s (2 ^ p) f (pow-lt {i = p} {j = 32} (omega arith)))
-      go (no h) = rw (with-over (omega arith)) f
-
-  pub without-fits : s < 2 ^ 32 → without s p < 2 ^ 32
-  without-fits f = go (decLe p 31)
-    where
-      go : Dec (p ≤ 31) → without s p < 2 ^ 32
-      go (yes h) = rw (without-in h) (omega arith)
-      go (no h) = rw (without-over (omega arith)) f
-
 pub has-only : (p : ℕ) → p ≤ 31 → (q : ℕ) → has (only p) q ≡ eqb p q
 has-only p h q = has-with 0 p h q ∙ rw (has-none q) (or-false (eqb p q))
 
--- ---- a set that one place less leaves empty: it was empty, or had that place only
-and-power : (s p : ℕ) → bitAnd s (2 ^ p) ≡ bit s p * 2 ^ p
-and-power s p =
-    let e : 2 ^ (1 + p) - 2 ^ p ≡ 2 ^ p = rw (add-comm 1 p, add-one p) (omega (arith, two-pow-succ p)) in
-    ap (bitAnd s) (sym e) ∙ and-high s 1 p
-
+-- ---- sets that one place less leaves empty
 pub without-zero : (p : ℕ) → without 0 p ≡ 0
 unfolding without
 without-zero p = go (ltb 31 p)
@@ -182,18 +160,6 @@ without-only p = go (ltb 31 p)
     go : (b : Bool) → cond b (cond b 0 (2 ^ p)) (cond b 0 (2 ^ p) - bitAnd (cond b 0 (2 ^ p)) (2 ^ p)) ≡ 0
     go true = refl
     go false = omega (arith, and-self (2 ^ p))
-
-pub without-none : (s p : ℕ) → without s p ≡ 0 → (s ≡ 0) ⊎ (s ≡ only p)
-unfolding without with has
-without-none s p = go (ltb 31 p)
-  where
-    go : (b : Bool) → cond b s (s - bitAnd s (2 ^ p)) ≡ 0 → (s ≡ 0) ⊎ (s ≡ cond b 0 (2 ^ p))
-    go true e = inl e
-    go false e = one (has s p) (omega (arith, and-power s p, and-le-l s (2 ^ p))) (bit-has s p)
-      where
-        one : (b : Bool) → s ≡ bit s p * 2 ^ p → bit s p ≡ cond b 1 0 → (s ≡ 0) ⊎ (s ≡ 2 ^ p)
-        one true h k = inr (h ∙ rw k (one-mul (2 ^ p)))
-        one false h k = inl (h ∙ rw k (zero-mul (2 ^ p)))
 
 -- ---- a set within another
 module _ (s t : ℕ) where

@@ -3,4 +3,3 @@ pub mod Lists
 pub mod Places
 pub mod House
 pub mod Lookups
-pub mod Rules

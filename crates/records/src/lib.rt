@@ -5,7 +5,7 @@ ghost use lib.ListN.{length, drop};
 ghost use Prim.Native.Nat.{ℕ, _<_, _≤_};
 ghost use Rattle.records.specs.Tables.{putAt};
 ghost use Rattle.records.specs.Places.{has, with, without};
-ghost use Rattle.records.specs.House.{noUser, noScript, noSession, noDraft, numberOf, draftTable, view, emptyHouse, user, script, session, draftAt, putUser, putRooms, putScript, putSession, putDraft, cutDrafts, addDraft};
+ghost use Rattle.records.specs.House.{noUser, noScript, noSession, numberOf, draftTable, view, emptyHouse, user, script, session, draftAt, putUser, putRooms, putScript, putSession, putDraft, cutDrafts, addDraft};
 ghost use Rattle.records.specs.Lookups.{findUser, findRoom, findScript, findSession, firstFrom, draftIs, findDraft};
 
 // The rooms that exist, the number of live drafts, then the tables: 64 users of 7 cells, 64 scripts of 4, 64 sessions of 6, 256 drafts of 3.

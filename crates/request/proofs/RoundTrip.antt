@@ -1,11 +1,11 @@
 -- Reading is the inverse of writing out, both ways.
-use mathlib.Core.Path.{_≡_, refl, sym, ap, _∙_, subst}
+use mathlib.Core.Path.{_≡_, refl, sym, ap, _∙_}
 use mathlib.Core.Bool.{Bool, true, false, cond}
 use mathlib.Core.List.{List, [], _∷_, _++_, append-assoc}
-use Prim.Native.Nat.{ℕ, suc, _+_, _/_, _%_, _≤_, _<_}
+use Prim.Native.Nat.{ℕ, _+_, _/_, _%_, _≤_, _<_}
 use native.Mathlib.Omega.{arith}
 use native.Mathlib.Numerals.{add-one}
-use lib.ListN.{length, getD, drop, replicate}
+use lib.ListN.{length, drop, replicate}
 use lib.Dec.{eqb, leb}
 use lib.Seq.{drop-cons}
 use borrow.Author.Tests.{leb-false}
@@ -13,8 +13,7 @@ use Rattle.request.specs.Bytes.{_#_, pair, pairAt, quad, quadAt, pairByt
 use Rattle.request.specs.Kinds.{Body, one, two, four, make, Row, Sought, at, none, rows, find, lengthAt, bodyLength}
 use Rattle.request.specs.Reading.{fieldsFrom, requestAt, requestOf, frameAt, frameOf}
 use Rattle.request.specs.Writing.{written, framed}
-use Rattle.request.specs.declared.Frame.{Frame}
-use Rattle.request.specs.declared.Frame.the-variants.{Whole, Unknown, Cut}
+use Rattle.request.specs.declared.Frame.the-variants.{Whole, Cut}
 use Rattle.request.specs.declared.Request.{Request}
 use Rattle.request.specs.declared.Request.the-variants.{Enrol, Establish, JoinStaff, LeaveStaff, JoinOutsider, LeaveOutsider, Add, Remove, Import, Merge, Disband, OpenInRoom, OpenInHouse, OpenReadOnly, Read, Update, Create, Kill, TakeBack}
 use Rattle.request.proofs.Rows.{Each, _&_, Found, found}

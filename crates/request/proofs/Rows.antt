@@ -2,12 +2,12 @@
 use mathlib.Core.Path.{_≡_, refl, _∙_, subst}
 use mathlib.Core.Bool.{Bool, true, false, cond, _&&_}
 use mathlib.Core.List.{List, [], _∷_}
-use Prim.Native.Nat.{ℕ, _≤_, _<_}
+use Prim.Native.Nat.{ℕ, _<_}
 use native.Mathlib.Omega.{arith}
-use lib.Dec.{T, eqb, ltb, ltb→lt, eqb→eq}
+use lib.Dec.{T, eqb, ltb, ltb→lt}
 use lib.Ieee.Fits.{and-l, and-r}
 use borrow.Author.Tests.{ne-eqb, eqb-true}
-use Rattle.request.specs.Kinds.{Row, Sought, at, none, find, rows, lengthAt}
+use Rattle.request.specs.Kinds.{Row, at, none, find, rows, lengthAt}
 
 -- ---- a property of every row is the found row's, whose kind is the one looked for
 abbrev pub Each : (Row → Type 0) → List Row → Type 0

@@ -2,13 +2,11 @@
 use mathlib.Core.Path.{_≡_, refl, sym, ap, _∙_, subst}
 use mathlib.Core.List.{List, [], _∷_}
 use Prim.Native.Nat.{ℕ, _≤_, _<_}
-use native.Mathlib.Omega.{arith}
 use lib.ListN.{length}
 use borrow.Author.Tests.{eq-eqb, ne-eqb, le-leb, lt-leb}
 use Rattle.request.specs.Bytes.{_#_}
 use Rattle.request.specs.Kinds.{Row, Sought, at, none, rows, find, lengthAt, bodyLength}
 use Rattle.request.specs.Reading.{fieldsFrom, requestAt, requestOf, frameAt, frameOf}
-use Rattle.request.specs.declared.Frame.{Frame}
 use Rattle.request.specs.declared.Frame.the-variants.{Whole, Unknown, Cut}
 use Rattle.request.specs.declared.Request.{Request}
 use Rattle.request.proofs.Rows.{Each, _&_, found, unknown-kind}

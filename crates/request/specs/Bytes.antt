@@ -1,6 +1,6 @@
 -- Bytes and the numbers they spell. 01: "Numbers are big-endian".
 use Prim.Native.Nat.{ℕ, _+_, _*_, _/_, _%_}
-use mathlib.Core.List.{List, [], _∷_}
+use mathlib.Core.List.{List, _∷_}
 use lib.ListN.{getD}
 
 -- byte i, the first being byte 0; past the end there is 0

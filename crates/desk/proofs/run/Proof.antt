@@ -1,7 +1,7 @@
 -- `run` meets its contract: between two turns, what was printed and what the bytes kept are still to give is what is to be printed for all that was read.
 use borrow.Author.Needs.{needs}
 use native.Mathlib.Omega.{arith}
-use mathlib.Core.Path.{_≡_, sym, _∙_}
+use mathlib.Core.Path.{sym, _∙_}
 use denote.Ref.{now}
 use lib.Seq.{length-take-le}
 use Rattle.history.specs.Desk.{shown}

@@ -1,6 +1,6 @@
 -- `add_place` meets its contract: by what the lookup found.
 use borrow.Author.Needs.{needs}
-use mathlib.Core.Path.{_≡_, sym, _∙_}
+use mathlib.Core.Path.{sym, _∙_}
 use Rattle.effects.proofs.add_place.Statement.{statement}
 use Rattle.effects.proofs.add_place.Tie as tie
 

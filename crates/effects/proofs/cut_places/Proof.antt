@@ -2,8 +2,8 @@
 use borrow.Author.Needs.{needs}
 use native.Mathlib.Omega.{arith}
 use Prim.Native.Nat.{_≤_, _-_}
-use mathlib.Core.Path.{_≡_, _∙_, ap}
-use Rattle.records.specs.House.{view, draftAt, noDraft}
+use mathlib.Core.Path.{_∙_, ap}
+use Rattle.records.specs.House.{view, noDraft}
 use Rattle.effects.specs.Elements.{unplaced}
 use Rattle.effects.proofs.Parts.{drafts, Done, start, store, skip, finish-map}
 use Rattle.effects.proofs.Same.{same-draft}

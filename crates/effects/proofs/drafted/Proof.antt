@@ -1,10 +1,10 @@
 -- `drafted` meets its contract: each draft passed has marked its script.
 use borrow.Author.Needs.{needs}
 use native.Mathlib.Omega.{arith}
-use Prim.Native.Nat.{ℕ, _≤_, _<_, _-_}
-use mathlib.Core.Path.{_≡_, refl, sym, ap}
+use Prim.Native.Nat.{ℕ, _≤_, _-_}
+use mathlib.Core.Path.{refl, ap}
 use mathlib.Core.Bool.{false}
-use lib.ListN.{length, getD-replicate}
+use lib.ListN.{getD-replicate}
 use Rattle.records.specs.House.{view, noDraft}
 use Rattle.records.specs.declared.Draft.{Draft}
 use Rattle.effects.proofs.Lists.{Marked, none-marked, marked-beyond, marked-more, marked-all}

@@ -1,5 +1,4 @@
 -- `hired` meets its contract: the test of the rooms says which label the freelancer has.
-use borrow.Author.Needs.{needs}
 use borrow.Author.Tests.{eq-eqb, ne-eqb}
 use Rattle.effects.proofs.hired.Statement.{statement}
 use Rattle.effects.proofs.hired.Tie as tie

@@ -1,13 +1,9 @@
 -- `part_users` meets its contract: a map in place; where neither set changes, the user is the same.
 use borrow.Author.Needs.{needs}
-use borrow.Author.Tests.{eqb-true}
 use native.Mathlib.Omega.{arith}
-use Prim.Native.Nat.{ℕ, _≤_, _-_}
-use mathlib.Core.Path.{_≡_, _∙_, sym, ap}
-use mathlib.Core.Bool.{Bool, true, false, _&&_}
-use lib.Dec.{eqb}
-use Rattle.records.specs.House.{view, user, noUser}
-use Rattle.records.specs.declared.User.{User}
+use Prim.Native.Nat.{_≤_, _-_}
+use mathlib.Core.Path.{_∙_, ap}
+use Rattle.records.specs.House.{view, noUser}
 use Rattle.records.proofs.Views.{count-users}
 use Rattle.effects.specs.Elements.{parted}
 use Rattle.effects.proofs.Parts.{users, Done, start, store, skip, finish-map}

@@ -1,6 +1,6 @@
 -- `remove_place` meets its contract: by what the lookup found, and by whether a place is left.
 use borrow.Author.Needs.{needs}
-use mathlib.Core.Path.{_≡_, sym, ap, _∙_}
+use mathlib.Core.Path.{sym, ap, _∙_}
 use Rattle.records.specs.House.{view}
 use Rattle.effects.specs.Elements.{unplaced}
 use Rattle.effects.proofs.Removal.{place-left, last-place}

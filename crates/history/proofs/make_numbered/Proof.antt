@@ -1,9 +1,6 @@
 -- `make_numbered` meets its contract: by what the counter said.
 use borrow.Author.Needs.{needs}
-use mathlib.Core.Path.{_≡_, sym, ap, _∙_}
-use Prim.Native.Nat.{ℕ}
-use Rattle.counter.specs.Numbers.{nextAfter, lastAfter}
-use Rattle.counter.specs.declared.Next.the-variants.{Number, Spent}
+use mathlib.Core.Path.{sym, ap, _∙_}
 use Rattle.records.specs.House.{House}
 use Rattle.effects.specs.declared.Change.{Change}
 use Rattle.history.specs.Machine.{Desk, outcome}

@@ -1,14 +1,12 @@
 -- `open` meets its contract: zeros show no records and no change.
-use borrow.Author.Needs.{needs}
-use mathlib.Core.Path.{_≡_, ap, _∙_}
-use mathlib.Core.List.{List, []}
+use mathlib.Core.Path.{_≡_, ap}
+use mathlib.Core.List.{[]}
 use Prim.Native.Nat.{ℕ, _+_, _%_, min}
 use lib.ListN.{replicate}
 use Rattle.request.specs.Bytes.{_#_}
 use Rattle.records.specs.Tables.{at, tabulate}
 use Rattle.records.proofs.Tables.{zeros-at}
 use Rattle.records.proofs.Views.{view-zeros}
-use Rattle.effects.specs.declared.Change.{Change}
 use Rattle.log.specs.Log.{changeTable, past}
 use Rattle.history.proofs.open.Statement.{statement}
 use Rattle.history.proofs.open.Tie as tie

@@ -1,6 +1,6 @@
 -- `take` meets its contract: each ruling is told, and the machine does by it what the code does.
 use borrow.Author.Needs.{needs}
-use mathlib.Core.Path.{_≡_, sym, ap, _∙_}
+use mathlib.Core.Path.{sym, ap, _∙_}
 use Rattle.records.specs.House.{House}
 use Rattle.effects.specs.declared.Change.{Change}
 use Rattle.history.specs.Machine.{Desk, outcome, step}

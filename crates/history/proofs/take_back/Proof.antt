@@ -1,8 +1,7 @@
 -- `take_back` meets its contract: by whether a change is kept.
 use borrow.Author.Needs.{needs}
 use borrow.Author.Tests.{eq-eqb, ne-eqb}
-use native.Mathlib.Omega.{arith}
-use mathlib.Core.Path.{_≡_, sym, ap, _∙_}
+use mathlib.Core.Path.{sym, _∙_}
 use lib.ListN.{length}
 use Rattle.log.specs.Log.{past}
 use Rattle.history.specs.Machine.{takeBack}

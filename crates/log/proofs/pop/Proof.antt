@@ -1,8 +1,8 @@
 -- `pop` meets its contract: the count falls by one, and all but the newest stay.
 use borrow.Author.Needs.{needs}
 use native.Mathlib.Omega.{arith}
-use Prim.Native.Nat.{_-_, _≤_, _<_}
-use mathlib.Core.Path.{_≡_, sym, ap, _∙_}
+use Prim.Native.Nat.{_-_, _≤_}
+use mathlib.Core.Path.{sym}
 use lib.ListN.{length}
 use lib.Seq.{take-all}
 use Rattle.log.specs.Log.{past}

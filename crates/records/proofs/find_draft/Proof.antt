@@ -1,7 +1,7 @@
 -- `find_draft` goes on from the drafts of other numbers: those passed are not the draft, so the search of the rest is the search of all.
 use borrow.Author.Needs.{needs}
 use Prim.Native.Nat.{_≤_, _<_, _-_}
-use mathlib.Core.Path.{_≡_, refl, sym, _∙_}
+use mathlib.Core.Path.{_≡_, sym, _∙_}
 use native.Mathlib.Omega.{arith}
 use lib.ListN.{drop, length}
 use Rattle.records.specs.House.{view, noDraft}

@@ -1,9 +1,8 @@
 -- `others` passes drafts of other numbers, four a turn.
 use borrow.Author.Needs.{needs}
-use Prim.Native.Nat.{_+_, _≤_, _<_, _-_}
-use mathlib.Core.Path.{_≡_, refl, sym, _∙_}
+use Prim.Native.Nat.{_+_, _≤_, _-_}
+use mathlib.Core.Path.{refl, sym, _∙_}
 use native.Mathlib.Omega.{arith}
-use lib.ListN.{length}
 use Rattle.records.specs.House.{view}
 use Rattle.records.proofs.Lookups.{From, passed}
 use Rattle.records.proofs.others.Statement.{statement}

@@ -1,7 +1,7 @@
 #!/bin/sh
 # Runs a program that rt has built, on this script's standard input and output.
 #
-#   sh tests/run-program.sh PROGRAM <input
+#   sh tools/run-program.sh PROGRAM <input
 #
 # Exit status: the program's own; 1 where it only said something on standard error; 2 where there is no program to run.
 set -u
