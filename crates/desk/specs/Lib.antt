@@ -2,3 +2,4 @@
 pub mod Lines
 pub mod Printed
 pub mod Pieces
+pub mod Answers

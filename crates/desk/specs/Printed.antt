@@ -3,21 +3,14 @@ use Prim.Native.Nat.{ℕ, zero, suc, _+_}
 use mathlib.Core.List.{List, [], _∷_, _++_}
 use Rattle.request.specs.Kinds.{bodyLength}
 use Rattle.request.specs.Reading.{frameOf}
-use Rattle.request.specs.declared.Frame.{Frame}
-use Rattle.request.specs.declared.Frame.the-variants.{Whole, Unknown, Cut}
 use Rattle.request.specs.declared.Request.{Request}
 use Rattle.records.specs.House.{House}
 use Rattle.effects.specs.declared.Change.{Change}
 use Rattle.history.specs.Machine.{Desk, opened, step}
 use Rattle.history.specs.Desk.{deskRules}
 use Rattle.history.specs.declared.Answer.the-variants.{Refused}
+use Rattle.batch.specs.Batch.{byFrame}
 use Rattle.desk.specs.Lines.{lineOf}
-
--- what is printed where an unknown kind, a cut body or a whole request comes next
-abbrev pub byFrame : Frame → List ℕ → List ℕ → (Request → List ℕ) → List ℕ
-byFrame (Whole q) unknown cut whole = whole q
-byFrame Unknown unknown cut whole = unknown
-byFrame Cut unknown cut whole = cut
 
 -- on the desk d, with k the ordinal of the next line; the next `skip` bytes belong to a request that is answered already
 unfoldable pub printedFrom : ℕ → Desk House Change → ℕ → List ℕ → List ℕ
@@ -25,7 +18,7 @@ printedFrom skip d k [] = []
 printedFrom (suc skip) d k (b ∷ rest) = printedFrom skip d k rest
 printedFrom zero d k (kind ∷ rest) =
     byFrame (frameOf (kind ∷ rest)) (lineOf k kind (Refused 1)) (lineOf k kind (Refused 2))
-    (λ q. lineOf k kind (step deskRules d q .answer) ++ printedFrom (bodyLength kind) (step deskRules d q .desk) (k + 1) rest)
+    (λ (q : Request). lineOf k kind (step deskRules d q .answer) ++ printedFrom (bodyLength kind) (step deskRules d q .desk) (k + 1) rest)
 
 -- "the program `desk` opens with 0"; the first line has the ordinal 1
 abbrev pub printed : List ℕ → List ℕ
