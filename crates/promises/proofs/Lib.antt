@@ -1,4 +1,4 @@
--- The promises: Demands (2 and 3), Reached (the record rules), Determined (contracts), and the laws that they take.
+-- The promises: Demands (2 and 3), Listed (refusals), Reached (the record rules), Determined (contracts), and the laws that they take.
 pub mod Bools
 pub mod Lists
 pub mod Sets
@@ -20,4 +20,5 @@ pub mod Agrees
 pub mod Runs
 pub mod Trace
 pub mod Demands
+pub mod Listed
 pub mod Determined
