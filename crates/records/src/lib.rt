@@ -403,7 +403,7 @@ fn has_number(records: &Cells, i: usize, number: u32) -> bool
     draft.number == number
 }
 
-// How many drafts at the front have another number. Four are asked a turn, for speed; those behind the last four are not asked.
+// How many drafts at the front surely have another number: four are asked a turn, for speed, and what is left behind the last four not at all.
 fn others(records: &Cells, number: u32) -> usize
     ensures { λ r. ⌜ (r ≤ length (view (now (records .entry)) .drafts)) × ((script : ℕ) → findDraft (view (now (records .entry))) script number ≡ firstFrom r (draftIs script number) (drop r (view (now (records .entry)) .drafts))) ⌝ }
 {

@@ -174,7 +174,7 @@ fn wide(byte: u8) -> u32
     byte as u32
 }
 
-// ---- fields: byte `at` of a frame, or the number that starts there; bytes past the end are zero
+// ---- fields: byte `at` of a frame, zero past its end, and the numbers that two and four bytes spell
 fn byte_at(frame: &[u8], at: u8) -> u8
     ensures { λ r. ⌜ r ≡ now (frame .entry) # at ⌝ }
 {
@@ -194,7 +194,7 @@ pub fn number_of(a: u8, b: u8, c: u8, d: u8) -> u32
     (a as u32) * 16777216 + (b as u32) * 65536 + (c as u32) * 256 + (d as u32)
 }
 
-// The request of a kind and of the bytes behind it, the first being b1; of a kind that is unknown, a take-back.
+// The request of a kind and of the bytes behind it, b1 the first of them; of an unknown kind, for which nobody asks, a take-back.
 pub fn request_of(
     kind: u8,
     b1: u8,
