@@ -1,3 +1,4 @@
+-- The laws of a batch: its bounds, its stops, batches in pieces, and what the functions' proofs cite.
 pub mod Frames
 pub mod Steps
 pub mod Turn

@@ -1,1 +1,2 @@
+-- What a batch does.
 pub mod Batch

@@ -1,1 +1,2 @@
+-- The facts that a refusal names.
 pub mod Conditions

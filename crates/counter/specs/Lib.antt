@@ -1,1 +1,2 @@
+-- The next draft number.
 pub mod Numbers

@@ -1,1 +1,2 @@
+-- The laws that the functions' proofs cite.
 pub mod Laws

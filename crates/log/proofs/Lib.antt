@@ -1,1 +1,2 @@
+-- The laws of the ring.
 pub mod Ring

@@ -1,1 +1,2 @@
+-- The kept changes, and the bytes that show them.
 pub mod Log

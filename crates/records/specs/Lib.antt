@@ -1,3 +1,4 @@
+-- The records of one house: what the cells show, and what a lookup finds.
 pub mod Tables
 pub mod Lists
 pub mod Places

@@ -1,3 +1,4 @@
+-- The kinds of request, their bytes, reading and writing.
 pub mod Bytes
 pub mod Kinds
 pub mod Reading
