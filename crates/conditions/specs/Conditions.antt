@@ -2,54 +2,22 @@
 use Prim.Native.Nat.{ℕ, _%_}
 use mathlib.Core.Bool.{Bool, not, cond, _&&_, _||_}
 use lib.Bits.{bitAnd}
-use lib.Dec.{eqb, leb, ltb}
+use lib.Dec.{eqb, ltb}
 use lib.ListN.{length}
 use Rattle.label.specs.declared.Label.{Label}
 use Rattle.label.specs.declared.Label.the-variants.{At}
 use Rattle.label.specs.Labels.{dominates}
 use Rattle.records.specs.Lists.{any}
 use Rattle.records.specs.Places.{has}
-use Rattle.records.specs.House.{House, house, staff, freelancer, outsider}
+use Rattle.records.specs.House.{House, house, staff, freelancer}
 use Rattle.records.specs.declared.User.{User}
 use Rattle.records.specs.declared.Script.{Script}
 use Rattle.records.specs.declared.Session.{Session}
 use Rattle.records.specs.declared.Draft.{Draft}
 
--- ---- 3: of the request alone
--- "user, script, session over 63"
-abbrev pub isId : ℕ → Bool
-isId n = leb n 63
-
--- "room not 1..16"
-abbrev pub isRoomNumber : ℕ → Bool
-isRoomNumber room = leb 1 room && leb room 16
-
--- "level over 7"
-abbrev pub isLevel : ℕ → Bool
-isLevel level = leb level 7
-
--- "sort not 0 or 2"
-abbrev pub isSort : ℕ → Bool
-isSort sort = eqb sort staff || eqb sort outsider
-
--- "admin not 0 or 1"
-abbrev pub isYesNo : ℕ → Bool
-isYesNo admin = leb admin 1
-
--- "sort 2 with level, categories or admin not zero"
-abbrev pub isPlain : ℕ → ℕ → ℕ → ℕ → Bool
-isPlain sort level c admin = not (eqb sort outsider) || (eqb level 0 && eqb c 0 && eqb admin 0)
-
--- ---- "On a desk without users, Enrol .. is granted only with u = new, sort 0 and admin 1"
+-- ---- "On a desk without users"
 abbrev pub noUsers : House → Bool
 noUsers h = not (any (λ u. u .here) (h .users))
-
-abbrev pub first : ℕ → ℕ → ℕ → ℕ → Bool
-first u new sort admin = eqb u new && eqb sort staff && eqb admin 1
-
--- on a desk without users the first one, and else "house administrator"
-abbrev pub mayEnrol : Bool → Bool → Bool → Bool
-mayEnrol empty itself admin = cond empty itself admin
 
 -- ---- 6 and 7
 -- "u doesn't lead the room"

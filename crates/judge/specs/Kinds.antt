@@ -12,7 +12,8 @@ use Rattle.request.specs.declared.Request.the-variants.{Enrol, Establish, JoinS
 use Rattle.judge.specs.declared.Ruling.{Ruling}
 use Rattle.judge.specs.declared.Ruling.the-variants.{Pass, Keep, KeepNumbered}
 use Rattle.judge.specs.Refusals.{Line, _unless_, judged}
-use Rattle.conditions.specs.Conditions.{isId, isRoomNumber, isLevel, isSort, isYesNo, isPlain, noUsers, first, mayEnrol, leads, isStaff, isFreelancer, mayKill, isIn, isAt, isSeated, ofOrigin, ofHouse, sees, opens, coversScript, sameAsScript, sameScripts, draftRoom}
+use Rattle.fields.specs.Fields.{isId, isRoomNumber, isLevel, isSort, isYesNo, isPlain, first, mayEnrol}
+use Rattle.conditions.specs.Conditions.{noUsers, leads, isStaff, isFreelancer, mayKill, isIn, isAt, isSeated, ofOrigin, ofHouse, sees, opens, coversScript, sameAsScript, sameScripts, draftRoom}
 
 -- "a user, room, script, session, or draft of that script, that must exist"
 abbrev pub isUser : House → ℕ → Bool

@@ -18,7 +18,8 @@ use Rattle.request.specs.declared.Request.the-variants.{Enrol, Establish, JoinS
 use Rattle.effects.specs.Effects.{effect}
 use Rattle.judge.specs.declared.Ruling.{Ruling}
 use Rattle.judge.specs.declared.Ruling.the-variants.{Refused, Pass, Keep, KeepNumbered}
-use Rattle.conditions.specs.Conditions.{isId, isRoomNumber, isSort, noUsers, first, mayEnrol, isStaff}
+use Rattle.fields.specs.Fields.{isId, isRoomNumber, isSort, first, mayEnrol}
+use Rattle.conditions.specs.Conditions.{noUsers, isStaff}
 use Rattle.judge.specs.Kinds.{enrolLines, establishLines, joinStaffLines, leaveStaffLines, joinOutsiderLines, leaveOutsiderLines, addLines, removeLines, importLines, mergeLines, disbandLines, openInRoomLines, openInHouseLines, openReadOnlyLines, updateLines, createLines, killLines, linesOf, grantOf, rulingOf}
 use Rattle.promises.specs.Fits.{bytes, twoBytes, fits}
 use Rattle.promises.proofs.Bools.{clash, left, right, equal, _and_, _then_}

@@ -7,7 +7,7 @@ use mathlib.Core.Bool.{Bool, not, _&&_, _||_}
 use mathlib.Core.List.{List, _∷_}
 use lib.ListN.{drop}
 use Rattle.records.specs.House.{House, view}
-use Rattle.conditions.specs.Conditions.{mayEnrol}
+use Rattle.fields.specs.Fields.{mayEnrol}
 use Rattle.judge.specs.declared.Ruling.the-variants.{Keep}
 use Rattle.judge.specs.Refusals.{Line, _unless_}
 use Rattle.judge.specs.Kinds.{isUser, enrolLines}

@@ -1,6 +1,6 @@
 -- `may_enrol` goes by whether there are users.
-use Rattle.conditions.proofs.may_enrol.Statement.{statement}
-use Rattle.conditions.proofs.may_enrol.Tie as tie
+use Rattle.fields.proofs.may_enrol.Statement.{statement}
+use Rattle.fields.proofs.may_enrol.Tie as tie
 
 returns : tie.Need-returns
 returns c = rw (c .if1 .taken)

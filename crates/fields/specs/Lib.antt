@@ -1,0 +1,2 @@
+-- The facts of a request's own fields.
+pub mod Fields
