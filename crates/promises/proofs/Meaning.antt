@@ -12,7 +12,7 @@ use Rattle.records.specs.Lists.{any, all, count}
 use Rattle.records.specs.Places.{has, with, only, within}
 use Rattle.records.specs.House.{House, noUser, noScript, noSession, house, noPlace, staff, outsider, user, script, session}
 use Rattle.records.specs.Lookups.{ofScript, placed}
-use Rattle.promises.specs.Rules.{_implies_, roomNumbers, isPlace, places, roomsThere, sessionThere, originThere, draftThere, administered, ownedWell, ascending, labelFits, userFits, scriptFits, sessionFits, bounded, namedThere, rules}
+use Rattle.promises.specs.Rules.{_implies_, roomNumbers, isPlace, places, roomsThere, sessionThere, originThere, draftThere, administered, staffIfTrusted, ledByOne, bareIfOutsider, ownedWell, inItsRoom, atHomeOrOneRoom, hasDraft, ascending, labelFits, userFits, scriptFits, sessionFits, bounded, namedThere, rules}
 use Rattle.records.specs.declared.User.{User}
 use Rattle.records.specs.declared.Script.{Script}
 use Rattle.records.specs.declared.Session.{Session}
@@ -89,8 +89,8 @@ user-fits u = atMost and label-is (u .level) (u .categories) and no-user u
 abbrev StaffOnly : User → Type 0
 StaffOnly u = (u .admin ≡ true → u .sort ≡ staff) × ((u .sort ≡ staff → ⊥) → u .leads ≡ 0)
 
-staff-is : (u : User) → Is ((u .admin || not (eqb (u .leads) 0)) implies eqb (u .sort) staff) (StaffOnly u)
-staff-is u = go (u .admin) refl (eqb (u .leads) 0) equal (eqb (u .sort) staff) equal
+staff-is : (u : User) → Is (staffIfTrusted u) (StaffOnly u)
+staff-is u = go (u .admin) refl _ equal _ equal
   where
     go : (a : Bool) → u .admin ≡ a → (l : Bool) → Is l (u .leads ≡ 0) → (s : Bool) → Is s (u .sort ≡ staff) → Is ((a || not l) implies s) (StaffOnly u)
     go a e l i true j = record { says = λ _. ((λ _. j .says refl), (λ n. absurd (n (j .says refl)))); shown = λ _. second (not (a || not l)) refl }
@@ -101,7 +101,7 @@ staff-is u = go (u .admin) refl (eqb (u .leads) 0) equal (eqb (u .sort) staff) e
 abbrev OutsiderBare : User → Type 0
 OutsiderBare u = u .sort ≡ outsider → Bare (u .level) (u .categories) (u .rooms)
 
-outsider-is : (u : User) → Is (eqb (u .sort) outsider implies (eqb (u .level) 0 && eqb (u .categories) 0 && eqb (u .rooms) 0)) (OutsiderBare u)
+outsider-is : (u : User) → Is (bareIfOutsider u) (OutsiderBare u)
 outsider-is u = equal then said (equal and equal and equal)
     (λ p. record { level-zero = p .0 .0; categories-zero = p .0 .1; no-room = p .1 })
     (λ f. ((f .level-zero, f .categories-zero), f .no-room))
@@ -110,7 +110,7 @@ abbrev RoomsThere : ℕ → User → Type 0
 RoomsThere rooms u = Among (u .rooms) rooms × Among (u .leads) rooms
 
 rooms-there : (h : House) (u : User) → Is (roomsThere h u) (RoomsThere (h .rooms) u)
-rooms-there h u = among (u .rooms) (h .rooms) and among (u .leads) (h .rooms)
+rooms-there h u = among _ _ and among _ _
 
 abbrev SessionFits : Session → Type 0
 SessionFits x = (LabelFits (x .level) (x .categories) × (x .here ≡ true → x .writes ≡ false → x .place ≡ noPlace)) × (x .here ≡ false → x ≡ noSession)
@@ -181,9 +181,9 @@ administered-is h = said (somewhere noUser (λ u. u .here) refl (h .users) then 
     back : Administered (h .users) → Somewhere noUser (λ u. u .here && u .admin) (h .users)
     back a = record { where-it-is = a .who; holds = rw (a .is-here, a .is-admin) }
 
-led-is : (h : House) → Is (all (λ r. has (h .rooms) r implies eqb (count (λ u. has (u .leads) r) (h .users)) 1) roomNumbers)
+led-is : (h : House) → Is (all (ledByOne h) roomNumbers)
     ((r : ℕ) → RoomNumber r → has (h .rooms) r ≡ true → Led (h .users) r)
-led-is h = rooms-all (λ r. has (h .rooms) r implies eqb (count (λ u. has (u .leads) r) (h .users)) 1) (λ r. has (h .rooms) r ≡ true → Led (h .users) r)
+led-is h = rooms-all (ledByOne h) (λ r. has (h .rooms) r ≡ true → Led (h .users) r)
     (λ r. itself then once noUser (λ u. has (u .leads) r) (has-none r) (h .users))
 
 -- ---- the rules by the test's words, in their order; what `and` joins is taken apart once, for each record
@@ -258,20 +258,19 @@ told-is : (h : House) (last : ℕ) → Is (rules h last) (Told h last)
 unfolding rules
 told-is h last = said
     (bounded-is h last and named-is h and administered-is h
-    and everywhere noUser (λ u. (u .admin || not (eqb (u .leads) 0)) implies eqb (u .sort) staff) StaffOnly staff-is ((λ k. refl), (λ _. refl)) (h .users)
+    and everywhere noUser staffIfTrusted StaffOnly staff-is ((λ k. refl), (λ _. refl)) (h .users)
     and led-is h
-    and everywhere noUser (λ u. eqb (u .sort) outsider implies (eqb (u .level) 0 && eqb (u .categories) 0 && eqb (u .rooms) 0)) OutsiderBare outsider-is
+    and everywhere noUser bareIfOutsider OutsiderBare outsider-is
     (λ _. record { level-zero = refl; categories-zero = refl; no-room = refl }) (h .users)
     and everywhere noSession (λ s. s .writes implies ownedWell (user h (s .owner)) s) (λ s. s .writes ≡ true → Owned (user h (s .owner)) s)
     (λ s. owned-is (user h (s .owner)) s) (λ k. clash k refl) (h .sessions)
-    and each-is (λ d. not (eqb (script h (d .script) .origin) house) implies eqb (d .places) (only (script h (d .script) .origin))) (RoomDraft h)
+    and each-is (inItsRoom h) (RoomDraft h)
     (λ d. unequal then equal) (h .drafts)
-    and each-is (λ d. eqb (script h (d .script) .origin) house implies (has (d .places) house || any (λ r. eqb (d .places) (only r)) roomNumbers))
-    (HouseDraft h) (λ d. equal then house-is (d .places)) (h .drafts)
-    and places-are noScript (λ i s. s .here implies any (ofScript i) (h .drafts)) (λ i s. s .here ≡ true → any (ofScript i) (h .drafts) ≡ true)
+    and each-is (atHomeOrOneRoom h) (HouseDraft h) (λ d. equal then house-is (d .places)) (h .drafts)
+    and places-are noScript (hasDraft h) (λ i s. s .here ≡ true → any (ofScript i) (h .drafts) ≡ true)
     (λ i s. itself then itself) (λ i k. clash k refl) (h .scripts)
-    and each-is placed (λ d. d .places ≡ 0 → ⊥) (λ d. unequal) (h .drafts)
-    and ascending-is 0 last (h .drafts))
+    and each-is _ (λ d. d .places ≡ 0 → ⊥) (λ d. unequal) (h .drafts)
+    and ascending-is _ last (h .drafts))
     (λ t. record {
       bounds = t .0 .0 .0 .0 .0 .0 .0 .0 .0 .0 .0;
       named = t .0 .0 .0 .0 .0 .0 .0 .0 .0 .0 .1;

@@ -51,16 +51,25 @@ abbrev pub administered : House → Bool
 administered h = any (λ u. u .here) (h .users) implies any (λ u. u .here && u .admin) (h .users)
 
 -- ---- "only staff are administrators or leads"
+abbrev pub staffIfTrusted : User → Bool
+staffIfTrusted u = (u .admin || not (eqb (u .leads) 0)) implies eqb (u .sort) staff
+
 abbrev pub staffOnly : House → Bool
-staffOnly h = all (λ u. (u .admin || not (eqb (u .leads) 0)) implies eqb (u .sort) staff) (h .users)
+staffOnly h = all staffIfTrusted (h .users)
 
 -- ---- "one lead for each room"
+abbrev pub ledByOne : House → ℕ → Bool
+ledByOne h r = has (h .rooms) r implies eqb (count (λ u. has (u .leads) r) (h .users)) 1
+
 abbrev pub oneLead : House → Bool
-oneLead h = all (λ r. has (h .rooms) r implies eqb (count (λ u. has (u .leads) r) (h .users)) 1) roomNumbers
+oneLead h = all (ledByOne h) roomNumbers
 
 -- ---- "outsiders with zero labels, in no room"
+abbrev pub bareIfOutsider : User → Bool
+bareIfOutsider u = eqb (u .sort) outsider implies (eqb (u .level) 0 && eqb (u .categories) 0 && eqb (u .rooms) 0)
+
 abbrev pub outsidersBare : House → Bool
-outsidersBare h = all (λ u. eqb (u .sort) outsider implies (eqb (u .level) 0 && eqb (u .categories) 0 && eqb (u .rooms) 0)) (h .users)
+outsidersBare h = all bareIfOutsider (h .users)
 
 -- ---- "RW sessions owned by staff (house) or by members of their room, and within the owner's label"
 abbrev pub ownedWell : User → Session → Bool
@@ -74,17 +83,25 @@ abbrev pub sessionsOwned : House → Bool
 sessionsOwned h = all (λ s. s .writes implies ownedWell (user h (s .owner)) s) (h .sessions)
 
 -- ---- "a room script's drafts in that room only"
+abbrev pub inItsRoom : House → Draft → Bool
+inItsRoom h d = not (eqb (script h (d .script) .origin) house) implies eqb (d .places) (only (script h (d .script) .origin))
+
 abbrev pub roomDrafts : House → Bool
-roomDrafts h = all (λ d. not (eqb (script h (d .script) .origin) house) implies eqb (d .places) (only (script h (d .script) .origin))) (h .drafts)
+roomDrafts h = all (inItsRoom h) (h .drafts)
 
 -- ---- "a house script's drafts with the house among the places, or with exactly one room"
+abbrev pub atHomeOrOneRoom : House → Draft → Bool
+atHomeOrOneRoom h d = eqb (script h (d .script) .origin) house implies (has (d .places) house || any (λ r. eqb (d .places) (only r)) roomNumbers)
+
 abbrev pub houseDrafts : House → Bool
-houseDrafts h =
-    all (λ d. eqb (script h (d .script) .origin) house implies (has (d .places) house || any (λ r. eqb (d .places) (only r)) roomNumbers)) (h .drafts)
+houseDrafts h = all (atHomeOrOneRoom h) (h .drafts)
 
 -- ---- "a draft for each script, a place for each draft"
+abbrev pub hasDraft : House → ℕ → Script → Bool
+hasDraft h i s = s .here implies any (ofScript i) (h .drafts)
+
 abbrev pub eachDrafted : House → Bool
-eachDrafted h = allFrom 0 (λ i s. s .here implies any (ofScript i) (h .drafts)) (h .scripts)
+eachDrafted h = allFrom 0 (hasDraft h) (h .scripts)
 
 abbrev pub eachPlaced : House → Bool
 eachPlaced h = all placed (h .drafts)
