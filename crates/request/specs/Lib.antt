@@ -3,3 +3,4 @@ pub mod Bytes
 pub mod Kinds
 pub mod Reading
 pub mod Writing
+pub mod Framing
