@@ -10,13 +10,13 @@ use lib.ListN.{length, take, drop, length-append, length-drop, take-append-drop}
 use lib.Seq.{take-at, drop-at, length-take-le, getD-take, getD-drop}
 use Rattle.request.specs.Bytes.{_#_}
 use Rattle.request.specs.Kinds.{bodyLength}
+use Rattle.request.proofs.Framing.{whole-is}
 use Rattle.history.specs.Machine.{step}
 use Rattle.history.specs.Desk.{deskRules}
 use Rattle.batch.specs.Batch.{State, Result, runBatch, Batched}
 use Rattle.batch.specs.declared.Ran.{Ran}
-use Rattle.batch.proofs.Frames.{whole-within}
-use Rattle.batch.proofs.Steps.{at-most-five}
-use Rattle.batch.proofs.Runs.{Runs, no-bytes, no-room, unknown, cut, request, answered, runs}
+use Rattle.batch.proofs.Steps.{at-most-five, answered}
+use Rattle.batch.proofs.Runs.{Runs, no-bytes, no-room, unknown, cut, request, runs}
 
 abbrev Within : List ℕ → ℕ → Result → Type 0
 Within b room r = (r .used ≤ length b) × (length (r .bytes) ≤ room)
@@ -28,7 +28,7 @@ within (unknown l h f) = (omega arith, omega arith)
 within (cut l h f) = (omega arith, omega arith)
 within {d} {b} {room} (request l h q f r later) =
     let n : ℕ = bodyLength (b # 0) in
-    let inside : n < length b = whole-within b q f in
+    let inside : n < length b = whole-is b q f .inside in
     let small : length (answered d q) ≤ 5 = at-most-five (step deskRules d q .answer) in
     let i = within later in
     let left : length (drop (suc n) b) ≡ length b - suc n = length-drop (suc n) b in

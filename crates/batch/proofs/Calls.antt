@@ -6,16 +6,13 @@ use native.Mathlib.Nat.{add-assoc}
 use native.Mathlib.Omega.{arith}
 use lib.ListN.{length, take, drop, length-append}
 use lib.Seq.{drop-drop}
-use Rattle.batch.specs.Batch.{State, Result, after, runBatch, Batched}
+use Rattle.batch.specs.Batch.{State, Result, runBatch, Batched}
+use Rattle.batch.specs.Pieces.{behind, both}
 use Rattle.batch.specs.declared.Stop.{Stop}
 use Rattle.batch.specs.declared.Ran.{Ran}
 use Rattle.batch.proofs.Bounds.{length-stays, behind-stays, up-to-end, written-is}
 use Rattle.batch.proofs.Stops.{all-when-end}
 use Rattle.batch.proofs.Pieces.{two-pieces, fresh-buffer}
-
--- what two calls return together
-abbrev pub both : Ran → Ran → Ran
-both r s = record { stop = s .stop; used = r .used + s .used; written = r .written + s .written }
 
 -- a call over a that ends with no bytes left, and one over b from the place reached, do what one call over a ++ b does
 pub two-calls : {d d₁ d₂ : State} {a b A A₁ A₂ : List ℕ} {place : ℕ} {r s : Ran} → Batched d a A place d₁ r A₁ → r .stop ≡ Stop.End
@@ -26,8 +23,8 @@ two-calls {d} {d₁} {d₂} {a} {b} {A} {A₁} {A₂} {place} {r} {s} first is s
     let R₂ : Result = runBatch d₁ b (length A₁ - (place + r .written)) in
     let left : room - length X ≡ length A₁ - (place + r .written) = omega (arith, first .written, length-stays first) in
     let all : length a ≡ r .used = sym (all-when-end first is) in
-    let one : runBatch d (a ++ b) room ≡ after (r .used) X R₂ =
-    two-pieces d a b room (sym (first .stop) ∙ is) ∙ (λ i. after (all i) X (runBatch (sym (first .desk) i) b (left i))) in
+    let one : runBatch d (a ++ b) room ≡ behind (r .used) X R₂ =
+    two-pieces d a b room (sym (first .stop) ∙ is) ∙ (λ i. behind (all i) X (runBatch (sym (first .desk) i) b (left i))) in
     let rest : drop (place + r .written + s .written) A₁ ≡ drop (place + (r .written + s .written)) A =
     sym (drop-drop (s .written) (place + r .written) A₁) ∙ ap (drop (s .written)) (behind-stays first) ∙ drop-drop (s .written) (place + r .written) A
     ∙ ap (λ (k : ℕ). drop k A) (add-assoc place (r .written) (s .written)) in
@@ -54,5 +51,5 @@ call-again {d} {d₁} {d₂} {R} {A} {A₁} {B} {B₁} {place} {from} {r} {s} fi
     let X : List ℕ = runBatch d R room .bytes in
     let fresh : ℕ = length B - from in
     ap (λ (k : ℕ). runBatch d R (k + fresh)) (first .written) ∙ fresh-buffer d R room fresh five (sym (first .stop) ∙ is)
-    ∙ (λ i. after (sym (first .used) i) (sym (written-is first) i) (runBatch (sym (first .desk) i) (drop (sym (first .used) i) R) fresh))
+    ∙ (λ i. behind (sym (first .used) i) (sym (written-is first) i) (runBatch (sym (first .desk) i) (drop (sym (first .used) i) R) fresh))
     ∙ (λ i. record { desk = sym (second .desk) i; stop = sym (second .stop) i; used = r .used + sym (second .used) i; bytes = take (r .written) (drop place A₁) ++ sym (written-is second) i })

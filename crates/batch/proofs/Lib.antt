@@ -1,5 +1,4 @@
--- The laws of a batch: its bounds, its stops, batches in pieces, and what the functions' proofs cite.
-pub mod Frames
+-- The laws of a batch: what it takes and answers, its bounds, its stops, batches in pieces, and what the functions' proofs cite.
 pub mod Steps
 pub mod Turn
 pub mod Runs
@@ -8,3 +7,4 @@ pub mod Stops
 pub mod Reading
 pub mod Pieces
 pub mod Calls
+pub mod Served

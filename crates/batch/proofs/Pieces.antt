@@ -7,72 +7,74 @@ use lib.ListN.{length, drop, length-append}
 use lib.Seq.{drop-drop, drop-append-le}
 use Rattle.request.specs.Bytes.{_#_}
 use Rattle.request.specs.Kinds.{bodyLength}
+use Rattle.request.proofs.Framing.{whole-is}
+use Rattle.request.proofs.Absurd.{differ}
 use Rattle.history.specs.Machine.{step}
 use Rattle.history.specs.Desk.{deskRules}
-use Rattle.batch.specs.Batch.{State, Result, after, runFrom, runBatch}
+use Rattle.batch.specs.Batch.{State, Result, runBatch}
+use Rattle.batch.specs.Stops.{Means}
+use Rattle.batch.specs.Pieces.{behind}
 use Rattle.batch.specs.declared.Stop.{Stop}
-use Rattle.batch.proofs.Frames.{whole-within}
 use Rattle.batch.proofs.Reading.{kind-more, frame-more}
-use Rattle.batch.proofs.Steps.{after-none, after-after, with-request}
-use Rattle.batch.proofs.Runs.{Runs, no-bytes, no-room, unknown, cut, request, answered, runs}
-use Rattle.batch.proofs.Stops.{Means, stop-means}
+use Rattle.batch.proofs.Steps.{answered, behind-none, behind-behind, with-request}
+use Rattle.batch.proofs.Runs.{Runs, no-bytes, no-room, unknown, cut, request, runs}
+use Rattle.batch.proofs.Stops.{stop-means}
 
 minus-none : (n : ℕ) → n ≡ n - 0
 minus-none n = omega arith
 
 -- ---- the request bytes in two pieces
 pieces : {d : State} {a : List ℕ} {room : ℕ} {r : Result} (b : List ℕ) → Runs d a room r → r .stop ≡ Stop.End
-    → runFrom 0 d (a ++ b) room ≡ after (r .used) (r .bytes) (runFrom 0 (r .desk) b (room - length (r .bytes)))
+    → runBatch d (a ++ b) room ≡ behind (r .used) (r .bytes) (runBatch (r .desk) b (room - length (r .bytes)))
 pieces {d} {a} {room} b (no-bytes e) is =
-    ap (λ (l : List ℕ). runFrom 0 d (l ++ b) room) e ∙ after-none (runFrom 0 d b room) ∙ ap (λ (k : ℕ). after 0 [] (runFrom 0 d b k)) (minus-none room)
-pieces b (no-room l h) is = let z : _≡_ {A = ℕ} 0 1 = cc in absurd (omega arith)
-pieces b (unknown l h f) is = let z : _≡_ {A = ℕ} 0 1 = cc in absurd (omega arith)
-pieces b (cut l h f) is = let z : _≡_ {A = ℕ} 0 1 = cc in absurd (omega arith)
+    ap (λ (l : List ℕ). runBatch d (l ++ b) room) e ∙ behind-none (runBatch d b room) ∙ ap (λ (k : ℕ). behind 0 [] (runBatch d b k)) (minus-none room)
+pieces b (no-room l h) is = differ cc
+pieces b (unknown l h f) is = differ cc
+pieces b (cut l h f) is = differ cc
 pieces {d} {a} {room} b (request l h q f r later) is =
     let n : ℕ = bodyLength (a # 0) in
     let bs : List ℕ = answered d q in
-    let inside : suc n ≤ length a = whole-within a q f in
-    let some : 0 < length (a ++ b) = simp length-append (omega arith) in
-    let first : runFrom 0 d (a ++ b) room ≡ after (suc n) bs (runFrom 0 (step deskRules d q .desk) (drop (suc n) (a ++ b)) (room - length bs)) =
-    with-request d room (a ++ b) some h q (frame-more a b l q f) (step deskRules d q) refl n (ap bodyLength (kind-more a b l)) in
+    let inside : suc n ≤ length a = whole-is a q f .inside in
+    let first : runBatch d (a ++ b) room ≡ behind (suc n) bs (runBatch (step deskRules d q .desk) (drop (suc n) (a ++ b)) (room - length bs)) =
+    with-request d room (a ++ b) h q (frame-more a b l q f) (step deskRules d q) refl n (ap bodyLength (kind-more a b l)) in
     let room-left : room - length bs - length (r .bytes) ≡ room - length (bs ++ r .bytes) = simp length-append (omega arith) in
-    first ∙ ap (λ (t : List ℕ). after (suc n) bs (runFrom 0 (step deskRules d q .desk) t (room - length bs))) (drop-append-le (suc n) a b inside)
-    ∙ ap (after (suc n) bs) (pieces b later is) ∙ after-after (suc n) (r .used) bs (r .bytes) _
-    ∙ ap (λ (k : ℕ). after (suc n + r .used) (bs ++ r .bytes) (runFrom 0 (r .desk) b k)) room-left
+    first ∙ ap (λ (t : List ℕ). behind (suc n) bs (runBatch (step deskRules d q .desk) t (room - length bs))) (drop-append-le (suc n) a b inside)
+    ∙ ap (behind (suc n) bs) (pieces b later is) ∙ behind-behind (suc n) (r .used) bs (r .bytes) _
+    ∙ ap (λ (k : ℕ). behind (suc n + r .used) (bs ++ r .bytes) (runBatch (r .desk) b k)) room-left
 
 -- a batch over a that ends with no bytes left, and then one over b with the room left, is one batch over a ++ b
 pub two-pieces : (d : State) (a b : List ℕ) (room : ℕ) → runBatch d a room .stop ≡ Stop.End
     → runBatch d (a ++ b) room
-    ≡ after (length a) (runBatch d a room .bytes) (runBatch (runBatch d a room .desk) b (room - length (runBatch d a room .bytes)))
+    ≡ behind (length a) (runBatch d a room .bytes) (runBatch (runBatch d a room .desk) b (room - length (runBatch d a room .bytes)))
 two-pieces d a b room is =
     let r : Result = runBatch d a room in
     let all : r .used ≡ length a = subst (λ (s : Stop). Means s a room (r .used) (r .bytes)) is (stop-means d a room) in
-    pieces b (runs d a room) is ∙ ap (λ (n : ℕ). after n (r .bytes) (runBatch (r .desk) b (room - length (r .bytes)))) all
+    pieces b (runs d a room) is ∙ ap (λ (n : ℕ). behind n (r .bytes) (runBatch (r .desk) b (room - length (r .bytes)))) all
 
 -- ---- the answer room in two pieces
 goes-on : {d : State} {b : List ℕ} {room : ℕ} {r : Result} (more : ℕ) → room ≤ more → Runs d b room r → r .stop ≡ Stop.NoRoom
-    → runFrom 0 d b more ≡ after (r .used) (r .bytes) (runFrom 0 (r .desk) (drop (r .used) b) (more - length (r .bytes)))
-goes-on more m (no-bytes e) is = let z : _≡_ {A = ℕ} 0 1 = cc in absurd (omega arith)
-goes-on {d} {b} more m (no-room l h) is = after-none (runFrom 0 d b more) ∙ ap (λ (k : ℕ). after 0 [] (runFrom 0 d b k)) (minus-none more)
-goes-on more m (unknown l h f) is = let z : _≡_ {A = ℕ} 0 1 = cc in absurd (omega arith)
-goes-on more m (cut l h f) is = let z : _≡_ {A = ℕ} 0 1 = cc in absurd (omega arith)
+    → runBatch d b more ≡ behind (r .used) (r .bytes) (runBatch (r .desk) (drop (r .used) b) (more - length (r .bytes)))
+goes-on more m (no-bytes e) is = differ cc
+goes-on {d} {b} more m (no-room l h) is = behind-none (runBatch d b more) ∙ ap (λ (k : ℕ). behind 0 [] (runBatch d b k)) (minus-none more)
+goes-on more m (unknown l h f) is = differ cc
+goes-on more m (cut l h f) is = differ cc
 goes-on {d} {b} {room} more m (request l h q f r later) is =
     let n : ℕ = bodyLength (b # 0) in
     let bs : List ℕ = answered d q in
-    let first : runFrom 0 d b more ≡ after (suc n) bs (runFrom 0 (step deskRules d q .desk) (drop (suc n) b) (more - length bs)) =
-    with-request d more b l (omega arith) q f (step deskRules d q) refl n refl in
+    let first : runBatch d b more ≡ behind (suc n) bs (runBatch (step deskRules d q .desk) (drop (suc n) b) (more - length bs)) =
+    with-request d more b (omega arith) q f (step deskRules d q) refl n refl in
     let on = goes-on (more - length bs) (omega arith) later is in
     let room-left : more - length bs - length (r .bytes) ≡ more - length (bs ++ r .bytes) = simp length-append (omega arith) in
-    first ∙ ap (after (suc n) bs) on ∙ after-after (suc n) (r .used) bs (r .bytes) _
-    ∙ (λ i. after (suc n + r .used) (bs ++ r .bytes) (runFrom 0 (r .desk) (drop-drop (r .used) (suc n) b i) (room-left i)))
+    first ∙ ap (behind (suc n) bs) on ∙ behind-behind (suc n) (r .used) bs (r .bytes) _
+    ∙ (λ i. behind (suc n + r .used) (bs ++ r .bytes) (runBatch (r .desk) (drop-drop (r .used) (suc n) b i) (room-left i)))
 
 -- after stop 13, going on behind the bytes used, with a fresh buffer that has room for an answer, does what one batch with that much more room does
 pub fresh-buffer : (d : State) (b : List ℕ) (room fresh : ℕ) → 5 ≤ fresh → runBatch d b room .stop ≡ Stop.NoRoom
     → runBatch d b (length (runBatch d b room .bytes) + fresh)
-    ≡ after (runBatch d b room .used) (runBatch d b room .bytes) (runBatch (runBatch d b room .desk) (drop (runBatch d b room .used) b) fresh)
+    ≡ behind (runBatch d b room .used) (runBatch d b room .bytes) (runBatch (runBatch d b room .desk) (drop (runBatch d b room .used) b) fresh)
 fresh-buffer d b room fresh five is =
     let r : Result = runBatch d b room in
     let why : (r .used < length b) × (room - length (r .bytes) < 5) = subst (λ (s : Stop). Means s b room (r .used) (r .bytes)) is (stop-means d b room) in
     let left : length (r .bytes) + fresh - length (r .bytes) ≡ fresh = omega arith in
     goes-on (length (r .bytes) + fresh) (omega (arith, why .1)) (runs d b room) is
-    ∙ ap (λ (k : ℕ). after (r .used) (r .bytes) (runBatch (r .desk) (drop (r .used) b) k)) left
+    ∙ ap (λ (k : ℕ). behind (r .used) (r .bytes) (runBatch (r .desk) (drop (r .used) b) k)) left

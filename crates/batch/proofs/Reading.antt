@@ -13,6 +13,7 @@ use Rattle.request.specs.Reading.{fieldsFrom, frameAt, frameOf}
 use Rattle.request.specs.declared.Frame.{Frame}
 use Rattle.request.specs.declared.Request.{Request}
 use Rattle.request.proofs.Rows.{Each, _&_, found}
+use Rattle.request.proofs.Absurd.{differ}
 
 -- whatever its fields are, a body from byte i on ends at byte `end`
 abbrev Ends : ℕ → ℕ → Body → Type 0
@@ -79,7 +80,7 @@ module _ (a b : List ℕ) where
     where
       go : (t : Bool) → leb (length a) (r .length) ≡ t → cond t Frame.Cut (Frame.Whole (fieldsFrom a 1 (r .body))) ≡ Frame.Whole q
           → frameAt (at r) (a ++ b) ≡ Frame.Whole q
-      go true l f = let z : _≡_ {A = ℕ} 0 1 = cc in absurd (omega arith)
+      go true l f = differ cc
       go false l f =
           let in-a : r .length < length a = leb-false (length a) (r .length) l in
           let in-both : r .length < length (a ++ b) = simp length-append (omega arith) in

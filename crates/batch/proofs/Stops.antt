@@ -9,29 +9,13 @@ use Rattle.request.specs.Bytes.{_#_}
 use Rattle.request.specs.Kinds.{bodyLength}
 use Rattle.request.specs.Reading.{frameOf}
 use Rattle.request.specs.declared.Frame.{Frame}
+use Rattle.request.proofs.Framing.{whole-is}
 use Rattle.batch.specs.Batch.{State, Result, runBatch, Batched}
+use Rattle.batch.specs.Stops.{EndsIn, AtFrame, Means}
 use Rattle.batch.specs.declared.Stop.{Stop}
 use Rattle.batch.specs.declared.Ran.{Ran}
-use Rattle.batch.proofs.Frames.{whole-within}
-use Rattle.batch.proofs.Runs.{Runs, no-bytes, no-room, unknown, cut, request, answered, runs}
-
--- the last byte is x
-pub record EndsIn (x : ℕ) (bytes : List ℕ) : Type 0 where
-  pub front : List ℕ
-  pub is : bytes ≡ front ++ (x ∷ [])
-
--- a stop before a request whose bytes hold the frame f: "C1 or C2 is written"
-pub record AtFrame (f : Frame) (x : ℕ) (b : List ℕ) (used : ℕ) (bytes : List ℕ) : Type 0 where
-  pub bytes-left : used < length b
-  pub frame : frameOf (drop used b) ≡ f
-  pub last-byte : EndsIn x bytes
-
--- "no bytes left"; "under 5 answer bytes left"; "unknown kind"; "cut body"
-abbrev pub Means : Stop → List ℕ → ℕ → ℕ → List ℕ → Type 0
-Means Stop.End b room used bytes = used ≡ length b
-Means Stop.NoRoom b room used bytes = (used < length b) × (room - length bytes < 5)
-Means Stop.Unknown b room used bytes = AtFrame Frame.Unknown 0xC1 b used bytes
-Means Stop.Cut b room used bytes = AtFrame Frame.Cut 0xC2 b used bytes
+use Rattle.batch.proofs.Steps.{answered}
+use Rattle.batch.proofs.Runs.{Runs, no-bytes, no-room, unknown, cut, request, runs}
 
 -- what holds behind a request holds of the whole
 module _ (b : List ℕ) (room n : ℕ) (inside : n < length b) (bs : List ℕ) where
@@ -61,7 +45,7 @@ means (no-room l h) = (l, omega arith)
 means (unknown l h f) = record { bytes-left = l; frame = f; last-byte = record { front = []; is = refl } }
 means (cut l h f) = record { bytes-left = l; frame = f; last-byte = record { front = []; is = refl } }
 means {d} {b} {room} (request l h q f r later) =
-    before b room (bodyLength (b # 0)) (whole-within b q f) (answered d q) (r .stop) (r .used) (r .bytes) (means later)
+    before b room (bodyLength (b # 0)) (whole-is b q f .inside) (answered d q) (r .stop) (r .used) (r .bytes) (means later)
 
 -- each stop says why the batch ended there
 pub stop-means : (d : State) (b : List ℕ) (room : ℕ) → Means (runBatch d b room .stop) b room (runBatch d b room .used) (runBatch d b room .bytes)

@@ -11,14 +11,15 @@ use Rattle.request.specs.Kinds.{bodyLength}
 use Rattle.request.specs.Reading.{frameOf}
 use Rattle.request.specs.declared.Frame.{Frame}
 use Rattle.request.specs.declared.Request.{Request}
+use Rattle.request.proofs.Framing.{whole-is}
 use Rattle.history.specs.Machine.{outcome, step}
 use Rattle.history.specs.Desk.{deskRules, answerBytes}
 use Rattle.history.specs.declared.Answer.{Answer}
-use Rattle.batch.specs.Batch.{State, Result, stopped, after, runFrom, runBatch, Batched}
+use Rattle.batch.specs.Batch.{State, Result, runBatch, Batched}
+use Rattle.batch.specs.Pieces.{behind}
 use Rattle.batch.specs.declared.Ran.{Ran}
 use Rattle.batch.specs.declared.Stop.{Stop}
-use Rattle.batch.proofs.Frames.{whole-within}
-use Rattle.batch.proofs.Steps.{at-most-five, after-none, after-after, with-no-room, with-unknown, with-cut, with-request}
+use Rattle.batch.proofs.Steps.{at-most-five, stopped, behind-none, behind-behind, with-no-bytes, with-no-room, with-unknown, with-cut, with-request}
 
 -- the buffer A once its part from `at` on has come back as ys
 abbrev pub back : List ℕ → ℕ → List ℕ → List ℕ
@@ -38,7 +39,7 @@ pub record Underway (R A₀ : List ℕ) (place : ℕ) (d₀ : State) (A : List �
   pub same-length : length A ≡ length A₀
   pub place-now : at ≡ place + length bytes
   pub buffer : A ≡ take place A₀ ++ bytes ++ drop at A₀
-  pub so-far : runBatch d₀ R (length A₀ - place) ≡ after used bytes (runFrom 0 d (drop used R) (length A₀ - at))
+  pub so-far : runBatch d₀ R (length A₀ - place) ≡ behind used bytes (runBatch d (drop used R) (length A₀ - at))
 
 -- where the loop was left by the stop s
 abbrev pub Over : (R A₀ : List ℕ) (place : ℕ) (d₀ d : State) (used : ℕ) (A : List ℕ) (at : ℕ) (s : Stop) → Type 0
@@ -61,7 +62,7 @@ at-start R A₀ place d₀ =
       same-length = refl;
       place-now = sym (add-zero place);
       buffer = simp (append-nil, take-append-drop);
-      so-far = after-none _;
+      so-far = behind-none _;
     }
 
 module _ {R A₀ : List ℕ} {place : ℕ} {d₀ : State} {A : List ℕ} {d : State} {used at : ℕ} (h : Underway R A₀ place d₀ A d used at) where
@@ -72,17 +73,17 @@ module _ {R A₀ : List ℕ} {place : ℕ} {d₀ : State} {A : List ℕ} {d : St
       let le : place ≤ length A₀ = omega arith in
       let len : length front ≡ at = simp (length-append, length-take-le place A₀ le) (sym (h .place-now)) in
       let before : take at A ≡ front = ap (take at) (h .buffer) ∙ take-at front (drop at A₀) at len in
-      let behind : drop at A ≡ drop at A₀ = ap (drop at) (h .buffer) ∙ drop-at front (drop at A₀) at len in
+      let rear : drop at A ≡ drop at A₀ = ap (drop at) (h .buffer) ∙ drop-at front (drop at A₀) at len in
       let rest : drop (at + length bs) A ≡ drop (at + length bs) A₀ =
-      sym (drop-drop (length bs) at A) ∙ ap (drop (length bs)) behind ∙ drop-drop (length bs) at A₀ in
+      sym (drop-drop (length bs) at A) ∙ ap (drop (length bs)) rear ∙ drop-drop (length bs) at A₀ in
       simp (before, rest, append-assoc)
 
   -- the batch ends here, and bs is the last that it wrote
-  finish : (s : Stop) (bs : List ℕ) (A′ : List ℕ) → runFrom 0 d (drop used R) (length A₀ - at) ≡ stopped d s bs
+  finish : (s : Stop) (bs : List ℕ) (A′ : List ℕ) → runBatch d (drop used R) (length A₀ - at) ≡ stopped d s bs
       → A′ ≡ take place A₀ ++ (h .bytes ++ bs) ++ drop (at + length bs) A₀
       → Batched d₀ R A₀ place d (record { stop = s; used = used; written = at + length bs - place }) A′
   finish s bs A′ e b =
-      let q : runBatch d₀ R (length A₀ - place) ≡ after used (h .bytes) (stopped d s bs) = h .so-far ∙ ap (after used (h .bytes)) e in
+      let q : runBatch d₀ R (length A₀ - place) ≡ behind used (h .bytes) (stopped d s bs) = h .so-far ∙ ap (behind used (h .bytes)) e in
       let n : length (runBatch d₀ R (length A₀ - place) .bytes) ≡ length (h .bytes) + length bs =
       ap (λ (r : Result). length (r .bytes)) q ∙ length-append (h .bytes) bs in
       let w : place + (at + length bs - place) ≡ at + length bs = omega (arith, h .place-now) in
@@ -95,7 +96,7 @@ module _ {R A₀ : List ℕ} {place : ℕ} {d₀ : State} {A : List ℕ} {d : St
       }
 
   -- the batch ends and writes nothing more
-  stay : (s : Stop) → runFrom 0 d (drop used R) (length A₀ - at) ≡ stopped d s [] → Over R A₀ place d₀ d used A at s
+  stay : (s : Stop) → runBatch d (drop used R) (length A₀ - at) ≡ stopped d s [] → Over R A₀ place d₀ d used A at s
   stay s e =
       let r = finish s [] A e (h .buffer ∙ simp (append-nil, add-zero)) in (
         subst (λ (k : ℕ). Batched d₀ R A₀ place d (record { stop = s; used = used; written = k - place }) A) (add-zero at) r,
@@ -103,8 +104,7 @@ module _ {R A₀ : List ℕ} {place : ℕ} {d₀ : State} {A : List ℕ} {d : St
       )
 
   pub at-end : length R ≤ used → Over R A₀ place d₀ d used A at Stop.End
-  unfolding runFrom
-  at-end e = stay Stop.End (ap (λ (l : List ℕ). runFrom 0 d l (length A₀ - at)) (drop-of-length-le R e))
+  at-end e = stay Stop.End (ap (λ (l : List ℕ). runBatch d l (length A₀ - at)) (drop-of-length-le R e) ∙ with-no-bytes d (length A₀ - at))
 
   some-left : used < length R → 0 < length (drop used R)
   some-left l = simp length-drop (omega arith)
@@ -131,7 +131,7 @@ module _ {R A₀ : List ℕ} {place : ℕ} {d₀ : State} {A : List ℕ} {d : St
     ahead = sym (is-f ∙ ap frameOf (take-all (length R - used) (drop used R) (simp length-drop (omega arith))))
 
     -- the answer a of r bytes is written, and the batch ends by the stop s
-    ends : (s : Stop) (a : Answer) → runFrom 0 d (drop used R) (length A₀ - at) ≡ stopped d s (answerBytes a)
+    ends : (s : Stop) (a : Answer) → runBatch d (drop used R) (length A₀ - at) ≡ stopped d s (answerBytes a)
         → (r : ℕ) → r ≡ length (answerBytes a) → (ys : List ℕ) → ys ≡ answerBytes a ++ drop (length (answerBytes a)) (take (length A - at) (drop at A))
         → Over R A₀ place d₀ d used (back A at ys) (at + r) s
     ends s a e r is-r ys is-ys =
@@ -146,7 +146,7 @@ module _ {R A₀ : List ℕ} {place : ℕ} {d₀ : State} {A : List ℕ} {d : St
     pub unknown : f ≡ Frame.Unknown → (r : ℕ) → r ≡ length (answerBytes (Answer.Refused 1))
         → (ys : List ℕ) → ys ≡ answerBytes (Answer.Refused 1) ++ drop (length (answerBytes (Answer.Refused 1))) (take (length A - at) (drop at A))
         → Over R A₀ place d₀ d used (back A at ys) (at + r) Stop.Unknown
-    unknown u = ends Stop.Unknown (Answer.Refused 1) (with-unknown d (length A₀ - at) (drop used R) (some-left in-R) room₀ (ahead ∙ u))
+    unknown u = ends Stop.Unknown (Answer.Refused 1) (with-unknown d (length A₀ - at) (drop used R) room₀ (ahead ∙ u))
 
     pub cut : f ≡ Frame.Cut → (r : ℕ) → r ≡ length (answerBytes (Answer.Refused 2))
         → (ys : List ℕ) → ys ≡ answerBytes (Answer.Refused 2) ++ drop (length (answerBytes (Answer.Refused 2))) (take (length A - at) (drop at A))
@@ -160,7 +160,7 @@ module _ {R A₀ : List ℕ} {place : ℕ} {d₀ : State} {A : List ℕ} {d : St
       -- the request's bytes are all there
       pub inside : used + (1 + n) ≤ length R
       inside =
-          let w = whole-within (drop used R) q (ahead ∙ is-q) in
+          let w = whole-is (drop used R) q (ahead ∙ is-q) .inside in
           let l : length (drop used R) ≡ length R - used = length-drop used R in
           omega (arith, kind-ahead, w)
 
@@ -172,8 +172,8 @@ module _ {R A₀ : List ℕ} {place : ℕ} {d₀ : State} {A : List ℕ} {d : St
           let bs : List ℕ = answerBytes a in
           let small : length bs ≤ 5 = at-most-five a in
           let fits : at + length bs ≤ length A = omega arith in
-          let step : runFrom 0 d (drop used R) (length A₀ - at) ≡ after (suc n) bs (runFrom 0 d' (drop (suc n) (drop used R)) (length A₀ - at - length bs)) =
-          with-request d (length A₀ - at) (drop used R) (some-left in-R) room₀ q (ahead ∙ is-q) (outcome d' a) (sym is) n kind-ahead in
+          let step : runBatch d (drop used R) (length A₀ - at) ≡ behind (suc n) bs (runBatch d' (drop (suc n) (drop used R)) (length A₀ - at - length bs)) =
+          with-request d (length A₀ - at) (drop used R) room₀ q (ahead ∙ is-q) (outcome d' a) (sym is) n kind-ahead in
           let e₁ : used + suc n ≡ used + (1 + n) = omega arith in
           let e₂ : length A₀ - at - length bs ≡ length A₀ - (at + r) = omega (arith, is-r) in
           let e₃ : drop (suc n) (drop used R) ≡ drop (used + (1 + n)) R = drop-drop (suc n) used R ∙ ap (λ (k : ℕ). drop k R) e₁ in
@@ -184,6 +184,6 @@ module _ {R A₀ : List ℕ} {place : ℕ} {d₀ : State} {A : List ℕ} {d : St
             place-now = simp length-append (omega (arith, h .place-now, is-r));
             buffer = came-back bs ys fits is-ys ∙ ap (λ (k : ℕ). take place A₀ ++ (h .bytes ++ bs) ++ drop (at + k) A₀) (sym is-r);
             so-far =
-                h .so-far ∙ ap (after used (h .bytes)) step ∙ after-after used (suc n) (h .bytes) bs _
-                ∙ (λ i. after (e₁ i) (h .bytes ++ bs) (runFrom 0 d' (e₃ i) (e₂ i)));
+                h .so-far ∙ ap (behind used (h .bytes)) step ∙ behind-behind used (suc n) (h .bytes) bs _
+                ∙ (λ i. behind (e₁ i) (h .bytes ++ bs) (runBatch d' (e₃ i) (e₂ i)));
           }

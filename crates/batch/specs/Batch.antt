@@ -1,17 +1,15 @@
 -- What a batch does: the paragraph "A batch takes request bytes and an answer buffer" of 01, "What the desk answers".
-use Prim.Native.Nat.{ℕ, zero, suc, _+_, _-_}
+use Prim.Native.Nat.{ℕ, suc, _+_, _-_}
 use mathlib.Core.Path.{_≡_}
 use mathlib.Core.Bool.{cond}
 use mathlib.Core.List.{List, [], _∷_, _++_}
 use lib.Dec.{ltb}
 use lib.ListN.{length, take, drop}
-use Rattle.request.specs.Kinds.{bodyLength}
-use Rattle.request.specs.Reading.{frameOf}
-use Rattle.request.specs.declared.Frame.{Frame}
+use Rattle.request.specs.Framing.{End, no-bytes, unknown-kind, cut-body, Series, seriesOf, writtenOut}
 use Rattle.request.specs.declared.Request.{Request}
 use Rattle.records.specs.House.{House}
 use Rattle.effects.specs.declared.Change.{Change}
-use Rattle.history.specs.Machine.{Desk, Outcome, step}
+use Rattle.history.specs.Machine.{Desk, run, answers}
 use Rattle.history.specs.Desk.{deskRules, answerBytes}
 use Rattle.history.specs.declared.Answer.{Answer}
 use Rattle.batch.specs.declared.Stop.{Stop}
@@ -32,6 +30,38 @@ returned stop used written = record { stop = stop; used = used; written = writte
 abbrev pub State : Type 0
 State = Desk House Change
 
+-- the bytes of some answers, one behind the other
+abbrev pub bytesOf : List Answer → List ℕ
+bytesOf [] = []
+bytesOf (a ∷ more) = answerBytes a ++ bytesOf more
+
+-- how many of these answers find room: none any more where "under 5 answer bytes" are left
+abbrev pub roomFor : ℕ → List Answer → ℕ
+roomFor room [] = 0
+roomFor room (a ∷ more) = cond (ltb room 5) 0 (suc (roomFor (room - length (answerBytes a)) more))
+
+-- the requests that are taken, with so much answer room, and those that are left
+abbrev pub takenOf : State → List Request → ℕ → List Request
+takenOf d qs room = take (roomFor room (answers deskRules d qs)) qs
+
+abbrev pub leftOf : State → List Request → ℕ → List Request
+leftOf d qs room = drop (roomFor room (answers deskRules d qs)) qs
+
+-- "in this order: no bytes left (stop 0); under 5 answer bytes left, or the place beyond the buffer (stop 13); unknown kind or cut body":
+-- the stop, where these requests are left, and behind them this end, and so much answer room
+abbrev pub stopAt : List Request → End → ℕ → Stop
+stopAt (q ∷ qs) end room = Stop.NoRoom
+stopAt [] no-bytes room = Stop.End
+stopAt [] (unknown-kind kind) room = cond (ltb room 5) Stop.NoRoom Stop.Unknown
+stopAt [] (cut-body kind) room = cond (ltb room 5) Stop.NoRoom Stop.Cut
+
+-- "C1 or C2 is written"; 13 is "never written"
+abbrev pub closing : Stop → List ℕ
+closing Stop.End = []
+closing Stop.NoRoom = []
+closing Stop.Unknown = answerBytes (Answer.Refused (stopNumber Stop.Unknown))
+closing Stop.Cut = answerBytes (Answer.Refused (stopNumber Stop.Cut))
+
 -- what a batch leaves: the desk, "the stop, request bytes used" and the answer bytes written
 pub record Result : Type 0 where
   pub desk : State
@@ -39,36 +69,20 @@ pub record Result : Type 0 where
   pub used : ℕ
   pub bytes : List ℕ
 
--- the batch ends here, with what it still writes; "that request's bytes count as unused"
-abbrev pub stopped : State → Stop → List ℕ → Result
-stopped d s bytes = record { desk = d; stop = s; used = 0; bytes = bytes }
+-- a batch is the run of the requests that it takes: their bytes count as used, their answers are written, and the stop's own byte
+abbrev pub runOver : State → Series → ℕ → Result
+runOver d s room =
+    let qs : List Request = takenOf d (s .requests) room in
+    let bytes : List ℕ = bytesOf (answers deskRules d qs) in
+    let stop : Stop = stopAt (leftOf d (s .requests) room) (s .end) (room - length bytes) in
+    record { desk = run deskRules d qs; stop = stop; used = length (writtenOut qs); bytes = bytes ++ closing stop }
 
--- n request bytes were used and these answer bytes written before a batch that leaves r
-abbrev pub after : ℕ → List ℕ → Result → Result
-after n bytes r = record { desk = r .desk; stop = r .stop; used = n + r .used; bytes = bytes ++ r .bytes }
+-- of the requests that the bytes are cut into
+abbrev pub taken : State → List ℕ → ℕ → List Request
+taken d requests room = takenOf d (seriesOf requests .requests) room
 
--- "unknown kind or cut body", or a request
-abbrev pub byFrame : {A : Type 0} → Frame → A → A → (Request → A) → A
-byFrame Frame.Unknown unknown cut whole = unknown
-byFrame Frame.Cut unknown cut whole = cut
-byFrame (Frame.Whole q) unknown cut whole = whole q
-
--- the batch over the bytes behind the next `skip`, with so much answer room: "Before each request, in this order"
-unfoldable pub runFrom : ℕ → State → List ℕ → ℕ → Result
-runFrom skip d [] room = stopped d Stop.End []
-runFrom (suc skip) d (b ∷ rest) room = runFrom skip d rest room
-runFrom zero d (kind ∷ rest) room =
-    cond (ltb room 5) (stopped d Stop.NoRoom [])
-    (byFrame (frameOf (kind ∷ rest))
-    (stopped d Stop.Unknown (answerBytes (Answer.Refused 1)))
-    (stopped d Stop.Cut (answerBytes (Answer.Refused 2)))
-    (λ (q : Request).
-    let o : Outcome House Change = step deskRules d q in
-    let bytes : List ℕ = answerBytes (o .answer) in
-    after (suc (bodyLength kind)) bytes (runFrom (bodyLength kind) (o .desk) rest (room - length bytes))))
-
-abbrev pub runBatch : State → List ℕ → ℕ → Result
-runBatch d requests room = runFrom 0 d requests room
+unfoldable pub runBatch : State → List ℕ → ℕ → Result
+runBatch d requests room = runOver d (seriesOf requests) room
 
 -- what was returned is the batch's, its bytes stand from the place on, and "all other answer bytes stay";
 -- d and answers are the desk and the buffer before, d' and answers' after; room is what the buffer has from the place on

@@ -1,2 +1,4 @@
--- What a batch does.
+-- What a batch does, what its stops say, and what two batches do together.
 pub mod Batch
+pub mod Stops
+pub mod Pieces

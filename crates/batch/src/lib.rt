@@ -38,10 +38,9 @@ impl Ran {
     }
 }
 
-// The desk and its last draft number after a batch, and what the batch returned.
+// The desk after a batch, and what the batch returned.
 pub struct RanDesk {
     pub desk: Desk,
-    pub last: u32,
     pub ran: Ran,
 }
 
@@ -61,23 +60,18 @@ fn put_answer(out: &mut [u8], answer: Answer) -> usize
     requires { ⌜ 5 ≤ length (now out) ⌝ }
     ensures { λ r. ⌜ (r ≡ length (answerBytes answer)) × (now (out .exit) ≡ answerBytes answer ++ drop (length (answerBytes answer)) (now (out .entry))) ⌝ }
 {
+    out[0] = history::answer_byte(answer);
     match answer {
-        Answer::Granted => {
-            out[0] = 0x80;
-            1
-        }
+        Answer::Granted => 1,
         Answer::Numbered(n) => {
-            out[0] = 0x81;
-            out[1] = (n / 16777216) as u8;
-            out[2] = (n / 65536 % 256) as u8;
-            out[3] = (n / 256 % 256) as u8;
-            out[4] = (n % 256) as u8;
+            let number = request::bytes_of(n);
+            out[1] = number.a;
+            out[2] = number.b;
+            out[3] = number.c;
+            out[4] = number.d;
             5
         }
-        Answer::Refused(n) => {
-            out[0] = ((0xC0 + n as u16) % 256) as u8;
-            1
-        }
+        Answer::Refused(_) => 1,
     }
 }
 
@@ -130,25 +124,29 @@ pub fn run(
 }
 
 // The same for a desk by value: it is taken apart once, and put together once.
-pub fn run_desk(desk: Desk, last: u32, requests: &[u8], answers: &mut [u8], place: usize) -> RanDesk
-    ensures { λ r. ⌜ Batched (shown (desk .base) (desk .log) (desk .current) last) (now (requests .entry)) (now (answers .entry)) place (shown (r .desk .base) (r .desk .log) (r .desk .current) (r .last)) (r .ran) (now (answers .exit)) ⌝ }
+pub fn run_desk(desk: Desk, requests: &[u8], answers: &mut [u8], place: usize) -> RanDesk
+    ensures { λ r. ⌜ Batched (shown (desk .base) (desk .log) (desk .current) (desk .last)) (now (requests .entry)) (now (answers .entry)) place (shown (r .desk .base) (r .desk .log) (r .desk .current) (r .desk .last)) (r .ran) (now (answers .exit)) ⌝ }
 {
     let mut base = desk.base;
     let mut log = desk.log;
     let mut current = desk.current;
-    let mut number = last;
+    let mut last = desk.last;
     let ran = run(
         &mut base,
         &mut log,
         &mut current,
-        &mut number,
+        &mut last,
         requests,
         answers,
         place,
     );
     RanDesk {
-        desk: Desk { base, log, current },
-        last: number,
+        desk: Desk {
+            base,
+            log,
+            current,
+            last,
+        },
         ran,
     }
 }

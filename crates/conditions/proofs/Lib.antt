@@ -1,2 +1,3 @@
--- The laws that the functions' proofs cite.
+-- The laws that the functions' proofs cite, and what the tests of labels say, for the crates above.
 mod Users
+pub mod Labels

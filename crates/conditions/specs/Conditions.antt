@@ -1,5 +1,5 @@
 -- The facts that 01's refusal table asks for, each of the one record that it is asked of. The quoted words are the table's.
-use Prim.Native.Nat.{ℕ, _%_}
+use Prim.Native.Nat.{ℕ}
 use mathlib.Core.Bool.{Bool, not, cond, _&&_, _||_}
 use lib.Bits.{bitAnd}
 use lib.Dec.{eqb, ltb}
@@ -64,9 +64,9 @@ shares a b = not (eqb (bitAnd a b) 0)
 abbrev pub sees : Session → User → Draft → Bool
 sees s owner d = cond (s .writes) (isSeated s d) (shares (d .places) (owner .rooms) || (isAt d house && isStaff owner))
 
--- ---- 9: "In all of 9 only level and categories count, never the place": labels at one place, level and categories in a label's byte and two bytes
+-- ---- 9: "In all of 9 only level and categories count, never the place": labels at one place
 abbrev pub labelOf : ℕ → ℕ → Label
-labelOf level c = At house (level % 256) (c % 65536)
+labelOf level c = At house level c
 
 abbrev pub covers : ℕ → ℕ → ℕ → ℕ → Bool
 covers level c level' c' = dominates (labelOf level c) (labelOf level' c')

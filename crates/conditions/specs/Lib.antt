@@ -1,2 +1,3 @@
 -- The facts that a refusal names.
 pub mod Conditions
+pub mod Labels

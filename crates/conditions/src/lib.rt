@@ -50,14 +50,14 @@ pub fn leads(records: &Cells, i: usize, room: u8) -> bool
     ensures { λ r. ⌜ r ≡ leads (user (view (now (records .entry))) i) room ⌝ }
 {
     let user = records::user_at(records, i);
-    records::has(user.leads, room as u32)
+    records::has(user.leads, room)
 }
 
 pub fn is_in(records: &Cells, i: usize, room: u8) -> bool
     ensures { λ r. ⌜ r ≡ isIn (user (view (now (records .entry))) i) room ⌝ }
 {
     let user = records::user_at(records, i);
-    records::has(user.rooms, room as u32)
+    records::has(user.rooms, room)
 }
 
 // ---- of scripts, sessions and drafts: k, s and d are their places
@@ -72,7 +72,7 @@ pub fn of_origin(records: &Cells, k: usize, room: u8) -> bool
     ensures { λ r. ⌜ r ≡ ofOrigin (script (view (now (records .entry))) k) room ⌝ }
 {
     let script = records::script_at(records, k);
-    script.origin == room as u32
+    script.origin == room
 }
 
 pub fn writes(records: &Cells, s: usize) -> bool
@@ -86,7 +86,7 @@ pub fn is_at(records: &Cells, d: usize, place: u8) -> bool
     ensures { λ r. ⌜ r ≡ isAt (draftAt (view (now (records .entry))) d) place ⌝ }
 {
     let draft = records::draft_at(records, d);
-    records::has(draft.places, place as u32)
+    records::has(draft.places, place)
 }
 
 // The session's place is one of the draft's.
@@ -111,7 +111,7 @@ pub fn may_kill(records: &Cells, i: usize, u: u8, s: usize) -> bool
     let user = records::user_at(records, i);
     let session = records::session_at(records, s);
     let led = records::has(user.leads, session.place);
-    (session.owner == u as u32) | session.writes & led
+    (session.owner == u) | session.writes & led
 }
 
 // An RW session sees by its own place alone; an RO session by its owner's rooms, and by the house where the owner is staff.
@@ -131,23 +131,23 @@ pub fn sees(records: &Cells, s: usize, d: usize) -> bool
 }
 
 // ---- of labels: only level and categories count, so the places are held equal. The one function that asks dominance.
-fn covers(level1: u32, categories1: u32, level2: u32, categories2: u32) -> bool
+fn covers(level1: u8, categories1: u16, level2: u8, categories2: u16) -> bool
     ensures { λ r. ⌜ r ≡ covers level1 categories1 level2 categories2 ⌝ }
 {
     let over = Label::At {
         place: 0,
-        level: (level1 % 256) as u8,
-        categories: (categories1 % 65536) as u16,
+        level: level1,
+        categories: categories1,
     };
     let under = Label::At {
         place: 0,
-        level: (level2 % 256) as u8,
-        categories: (categories2 % 65536) as u16,
+        level: level2,
+        categories: categories2,
     };
     over.dominates(under)
 }
 
-fn same(level1: u32, categories1: u32, level2: u32, categories2: u32) -> bool
+fn same(level1: u8, categories1: u16, level2: u8, categories2: u16) -> bool
     ensures { λ r. ⌜ r ≡ same level1 categories1 level2 categories2 ⌝ }
 {
     let over = covers(level1, categories1, level2, categories2);
@@ -159,12 +159,7 @@ pub fn opens(records: &Cells, i: usize, level: u8, categories: u16) -> bool
     ensures { λ r. ⌜ r ≡ opens (user (view (now (records .entry))) i) level categories ⌝ }
 {
     let owner = records::user_at(records, i);
-    covers(
-        owner.level,
-        owner.categories,
-        level as u32,
-        categories as u32,
-    )
+    covers(owner.level, owner.categories, level, categories)
 }
 
 pub fn covers_script(records: &Cells, s: usize, k: usize) -> bool

@@ -17,10 +17,13 @@ pub struct Issued {
     pub last: u32,
 }
 
+// The largest number that there is.
+const TOP: u32 = 4294967295;
+
 fn next_after(last: u32) -> Next
     ensures { λ r. ⌜ r ≡ nextAfter last ⌝ }
 {
-    if last == 4294967295 {
+    if last == TOP {
         return Next::Spent;
     }
     Next::Number(last + 1)
@@ -29,7 +32,7 @@ fn next_after(last: u32) -> Next
 fn stepped(last: u32) -> u32
     ensures { λ r. ⌜ r ≡ lastAfter last ⌝ }
 {
-    if last == 4294967295 {
+    if last == TOP {
         return last;
     }
     last + 1

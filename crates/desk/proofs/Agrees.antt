@@ -1,69 +1,44 @@
--- The program and the batch give the same answers: the lines printed and the answer bytes written are both made of one list of answers.
-use Prim.Native.Nat.{ℕ, zero, suc, _+_, _-_, _*_, _≤_}
-use mathlib.Core.Bool.{cond}
-use mathlib.Core.Path.{_≡_, refl, sym, ap}
-use mathlib.Core.List.{List, [], _∷_, _++_, append-nil}
+-- The program and the batch give the same answers: those of a run of the requests that the bytes are cut into, and the end's own.
+use Prim.Native.Nat.{ℕ, _-_, _*_, _≤_}
+use mathlib.Core.Bool.{true}
+use mathlib.Core.Path.{_≡_, refl, ap, _∙_}
+use mathlib.Core.List.{List, [], _∷_, _++_}
 use native.Mathlib.Omega.{arith}
-use lib.Dec.{ltb}
 use lib.ListN.{length}
-use borrow.Author.Tests.{le-ltb}
-use Rattle.request.specs.Kinds.{bodyLength}
-use Rattle.request.specs.Reading.{frameOf}
-use Rattle.request.specs.declared.Frame.{Frame}
-use Rattle.request.specs.declared.Frame.the-variants.{Whole, Unknown, Cut}
+use Rattle.request.specs.Bytes.{_#_}
+use Rattle.request.specs.Framing.{Series, seriesOf}
 use Rattle.request.specs.declared.Request.{Request}
+use Rattle.request.proofs.Framing.{Cuts, nothing, unknown, cut, whole, cuts}
 use Rattle.records.specs.House.{House}
 use Rattle.effects.specs.declared.Change.{Change}
-use Rattle.history.specs.Machine.{Desk, Outcome, step}
-use Rattle.history.specs.Desk.{deskRules, answerBytes}
-use Rattle.history.specs.declared.Answer.the-variants.{Refused}
-use Rattle.batch.specs.Batch.{stopped, after, byFrame, runFrom}
-use Rattle.batch.specs.declared.Stop.{Stop}
-use Rattle.batch.proofs.Steps.{at-most-five}
-use Rattle.desk.specs.Lines.{lineOf}
-use Rattle.desk.specs.Printed.{printedFrom}
-use Rattle.desk.specs.Answers.{given, givenFrom, linesFrom, bytesOf}
+use Rattle.history.specs.Machine.{Desk, step, answers}
+use Rattle.history.specs.Desk.{deskRules}
+use Rattle.history.specs.declared.Answer.{Answer}
+use Rattle.batch.specs.Batch.{Result, bytesOf, runOver, runBatch}
+use Rattle.batch.proofs.Steps.{at-most-five, answered, over-unknown, over-cut, over-request}
+use Rattle.desk.specs.Answers.{Given, withKinds, atEnd, givenTo, given, answersIn}
 
-pub prints-these : (skip : ℕ) (d : Desk House Change) (k : ℕ) (b : List ℕ) → printedFrom skip d k b ≡ linesFrom k (givenFrom skip d b)
-unfolding printedFrom givenFrom
-prints-these skip d k [] = refl
-prints-these (suc skip) d k (x ∷ rest) = prints-these skip d k rest
-prints-these zero d k (kind ∷ rest) = go (frameOf (kind ∷ rest)) (λ e. prints-these (bodyLength kind) e (k + 1) rest)
-  where
-    go : (f : Frame) → ((e : Desk House Change) → printedFrom (bodyLength kind) e (k + 1) rest ≡ linesFrom (k + 1) (givenFrom (bodyLength kind) e rest))
-        → byFrame f (lineOf k kind (Refused 1)) (lineOf k kind (Refused 2))
-        (λ (q : Request). lineOf k kind (step deskRules d q .answer) ++ printedFrom (bodyLength kind) (step deskRules d q .desk) (k + 1) rest)
-        ≡ linesFrom k (byFrame f (given kind (Refused 1) ∷ []) (given kind (Refused 2) ∷ [])
-        (λ (q : Request). given kind (step deskRules d q .answer) ∷ givenFrom (bodyLength kind) (step deskRules d q .desk) rest))
-    go Unknown later = sym (append-nil (lineOf k kind (Refused 1)))
-    go Cut later = sym (append-nil (lineOf k kind (Refused 2)))
-    go (Whole q) later = ap (λ (l : List ℕ). lineOf k kind (step deskRules d q .answer) ++ l) (later (step deskRules d q .desk))
+-- ---- the program
+of-the-run : (d : Desk House Change) (qs : List Request) (gs : List Given) → answersIn (withKinds qs (answers deskRules d qs) ++ gs) ≡ answers deskRules d qs ++ answersIn gs
+of-the-run d [] gs = refl
+of-the-run d (q ∷ qs) gs = ap (λ (l : List Answer). step deskRules d q .answer ∷ l) (of-the-run (step deskRules d q .desk) qs gs)
 
--- where the buffer has room for each answer
-pub writes-these : (skip : ℕ) (d : Desk House Change) (b : List ℕ) (room : ℕ) → 5 * length (givenFrom skip d b) ≤ room
-    → runFrom skip d b room .bytes ≡ bytesOf (givenFrom skip d b)
-unfolding runFrom givenFrom
-writes-these skip d [] room h = refl
-writes-these (suc skip) d (x ∷ rest) room h = writes-these skip d rest room h
-writes-these zero d (kind ∷ rest) room h = go (frameOf (kind ∷ rest)) (λ e left. writes-these (bodyLength kind) e rest left) h
-  where
-    go : (f : Frame)
-        → ((e : Desk House Change) (left : ℕ) → 5 * length (givenFrom (bodyLength kind) e rest) ≤ left
-        → runFrom (bodyLength kind) e rest left .bytes ≡ bytesOf (givenFrom (bodyLength kind) e rest))
-        → 5 * length (byFrame f (given kind (Refused 1) ∷ []) (given kind (Refused 2) ∷ [])
-        (λ (q : Request). given kind (step deskRules d q .answer) ∷ givenFrom (bodyLength kind) (step deskRules d q .desk) rest)) ≤ room
-        → cond (ltb room 5) (stopped d Stop.NoRoom [])
-        (byFrame f (stopped d Stop.Unknown (answerBytes (Refused 1))) (stopped d Stop.Cut (answerBytes (Refused 2)))
-        (λ (q : Request).
-        let o : Outcome House Change = step deskRules d q in
-        let bytes : List ℕ = answerBytes (o .answer) in
-        after (suc (bodyLength kind)) bytes (runFrom (bodyLength kind) (o .desk) rest (room - length bytes)))) .bytes
-        ≡ bytesOf (byFrame f (given kind (Refused 1) ∷ []) (given kind (Refused 2) ∷ [])
-        (λ (q : Request). given kind (step deskRules d q .answer) ∷ givenFrom (bodyLength kind) (step deskRules d q .desk) rest))
-    go Unknown later h = rw (le-ltb room 5 (omega arith)) (sym (append-nil (answerBytes (Refused 1))))
-    go Cut later h = rw (le-ltb room 5 (omega arith)) (sym (append-nil (answerBytes (Refused 2))))
-    go (Whole q) later h =
-        let o = step deskRules d q in
-        let few = at-most-five (o .answer) in
-        rw (le-ltb room 5 (omega arith))
-        (ap (λ (l : List ℕ). answerBytes (o .answer) ++ l) (later (o .desk) (room - length (answerBytes (o .answer))) (omega arith)))
+pub prints-these : (d : Desk House Change) (input : List ℕ)
+    → answersIn (given d input) ≡ answers deskRules d (seriesOf input .requests) ++ answersIn (atEnd true (seriesOf input .end))
+prints-these d input = of-the-run d (seriesOf input .requests) (atEnd true (seriesOf input .end))
+
+-- ---- the batch, where its buffer has five bytes of room for each answer
+over-these : {b : List ℕ} {s : Series} → Cuts b s → (d : Desk House Change) (room : ℕ) → 5 * length (givenTo true d s) ≤ room
+    → runOver d s room .bytes ≡ bytesOf (answersIn (givenTo true d s))
+over-these (nothing e) d room h = refl
+over-these {b} (unknown l f) d room h = ap (λ (r : Result). r .bytes) (over-unknown d room (b # 0) (omega (arith, h)))
+over-these {b} (cut l f) d room h = ap (λ (r : Result). r .bytes) (over-cut d room (b # 0) (omega (arith, h)))
+over-these {b} (whole l q f s later) d room h =
+    let e : Desk House Change = step deskRules d q .desk in
+    let few = at-most-five (step deskRules d q .answer) in
+    ap (λ (r : Result). r .bytes) (over-request d room q s (omega (arith, h)))
+    ∙ ap (λ (bytes : List ℕ). answered d q ++ bytes) (over-these later e (room - length (answered d q)) (omega (arith, h, few)))
+
+pub writes-these : (d : Desk House Change) (b : List ℕ) (room : ℕ) → 5 * length (given d b) ≤ room → runBatch d b room .bytes ≡ bytesOf (answersIn (given d b))
+unfolding runBatch
+writes-these d b room h = over-these (cuts b) d room h

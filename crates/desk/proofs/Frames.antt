@@ -1,21 +1,30 @@
--- What the first bytes hold, when more bytes follow them.
-use mathlib.Core.Path.{_≡_, refl, sym, ap, _∙_}
+-- What the first bytes hold, when more bytes follow them: one request, and a series.
+use mathlib.Core.Path.{_≡_, refl, sym, ap, _∙_, subst}
 use mathlib.Core.Bool.{Bool, true, false, cond}
-use mathlib.Core.List.{List, [], _∷_, _++_, append-assoc}
-use Prim.Native.Nat.{ℕ, _+_, _≤_, _<_}
+use mathlib.Core.List.{List, [], _∷_, _++_}
+use Prim.Native.Nat.{ℕ, suc, _+_, _≤_, _<_}
 use native.Mathlib.Omega.{arith}
 use lib.Dec.{leb}
-use lib.ListN.{length, drop}
-use borrow.Author.Tests.{leb-true, leb-false}
-use Rattle.request.specs.Bytes.{_#_}
-use Rattle.request.specs.Kinds.{Row, Sought, at, none, rows, find, lengthAt, bodyLength}
+use lib.ListN.{length, drop, length-append, length-drop, List·getD-append}
+use lib.Seq.{drop-drop, drop-append-le}
+use borrow.Author.Tests.{leb-true, leb-false, lt-leb}
+use Rattle.request.specs.Bytes.{_#_, pair, quad, pairAt, quadAt}
+use Rattle.request.specs.Kinds.{Body, one, two, four, make, Row, Sought, at, none, rows, find, bodyLength}
 use Rattle.request.specs.Reading.{fieldsFrom, frameAt, frameOf}
 use Rattle.request.specs.Writing.{written}
+use Rattle.request.specs.Framing.{End, no-bytes, unknown-kind, cut-body, Series, ends, before, seriesOf, writtenOut}
 use Rattle.request.specs.declared.Frame.the-variants.{Whole, Unknown, Cut}
 use Rattle.request.specs.declared.Request.{Request}
 use Rattle.request.proofs.Rows.{Each, _&_, found}
-use Rattle.request.proofs.Ways.{empty, by-row}
-use Rattle.request.proofs.RoundTrip.{read-is-written, written-is-read}
+use Rattle.request.proofs.Ways.{by-row}
+use Rattle.request.proofs.Framing.{whole-is, series-unknown, series-whole, Cuts, nothing, unknown, cut, whole}
+use Rattle.request.proofs.Absurd.{differ}
+use Rattle.records.specs.House.{House}
+use Rattle.effects.specs.declared.Change.{Change}
+use Rattle.history.specs.Machine.{Desk, step}
+use Rattle.history.specs.Desk.{deskRules}
+use Rattle.desk.specs.Answers.{givenTo}
+use Rattle.desk.specs.Turns.{readsOn}
 
 abbrev Short : Row → Type 0
 Short r = r .length ≤ 8
@@ -25,61 +34,164 @@ all-short =
     omega arith & omega arith & omega arith & omega arith & omega arith & omega arith & omega arith & omega arith & omega arith & omega arith
     & omega arith & omega arith & omega arith & omega arith & omega arith & omega arith & omega arith & omega arith & omega arith & tt
 
-differ : {A : Type 0} → (_≡_ {A = ℕ} 0 1) → A
-differ z = absurd (omega arith)
-
 -- the row of the first byte decides
 row-decides : (kind : ℕ) (rest : List ℕ) → frameOf (kind ∷ rest) ≡ frameAt (find rows kind) (kind ∷ rest)
 row-decides kind rest = by-row (kind ∷ rest) (λ e. omega (arith, e)) (find rows kind) refl
 
+-- ---- a body's fields lie within its row's length, so bytes behind them are not read
+abbrev Within : ℕ → ℕ → Body → Type 0
+Within n i (one f) = (i < n) × ((x : ℕ) → Within n (i + 1) (f x))
+Within n i (two f) = (i + 1 < n) × ((x : ℕ) → Within n (i + 2) (f x))
+Within n i (four f) = (i + 3 < n) × ((x : ℕ) → Within n (i + 4) (f x))
+Within n i (make q) = Unit {0}
+
+abbrev Reads : ℕ → Row → Type 0
+Reads n r = r .length < n → Within n 1 (r .body)
+
+all-within : (n : ℕ) → Each (Reads n) rows
+all-within n =
+    (λ h. (omega (arith, h), λ _. (omega (arith, h), λ _. (omega (arith, h), λ _. (omega (arith, h), λ _. (omega (arith, h), λ _. (omega (arith, h), λ _. tt)))))))
+    & (λ h. (omega (arith, h), λ _. (omega (arith, h), λ _. tt)))
+    & (λ h. (omega (arith, h), λ _. (omega (arith, h), λ _. (omega (arith, h), λ _. tt))))
+    & (λ h. (omega (arith, h), λ _. (omega (arith, h), λ _. (omega (arith, h), λ _. tt))))
+    & (λ h. (omega (arith, h), λ _. (omega (arith, h), λ _. (omega (arith, h), λ _. (omega (arith, h), λ _. (omega (arith, h), λ _. tt))))))
+    & (λ h. (omega (arith, h), λ _. (omega (arith, h), λ _. (omega (arith, h), λ _. tt))))
+    & (λ h. (omega (arith, h), λ _. (omega (arith, h), λ _. (omega (arith, h), λ _. (omega (arith, h), λ _. tt)))))
+    & (λ h. (omega (arith, h), λ _. (omega (arith, h), λ _. (omega (arith, h), λ _. (omega (arith, h), λ _. tt)))))
+    & (λ h. (omega (arith, h), λ _. (omega (arith, h), λ _. (omega (arith, h), λ _. (omega (arith, h), λ _. (omega (arith, h), λ _. tt))))))
+    & (λ h. (omega (arith, h), λ _. (omega (arith, h), λ _. (omega (arith, h), λ _. (omega (arith, h), λ _. tt)))))
+    & (λ h. (omega (arith, h), λ _. (omega (arith, h), λ _. tt)))
+    & (λ h. (omega (arith, h), λ _. (omega (arith, h), λ _. (omega (arith, h), λ _. (omega (arith, h), λ _. (omega (arith, h), λ _. tt))))))
+    & (λ h. (omega (arith, h), λ _. (omega (arith, h), λ _. (omega (arith, h), λ _. (omega (arith, h), λ _. tt)))))
+    & (λ h. (omega (arith, h), λ _. (omega (arith, h), λ _. (omega (arith, h), λ _. (omega (arith, h), λ _. tt)))))
+    & (λ h. (omega (arith, h), λ _. (omega (arith, h), λ _. (omega (arith, h), λ _. tt))))
+    & (λ h. (omega (arith, h), λ _. (omega (arith, h), λ _. (omega (arith, h), λ _. tt))))
+    & (λ h. (omega (arith, h), λ _. (omega (arith, h), λ _. tt)))
+    & (λ h. (omega (arith, h), λ _. (omega (arith, h), λ _. tt)))
+    & (λ h. (omega (arith, h), λ _. tt))
+    & tt
+
+fields-more : (b later : List ℕ) (i : ℕ) (body : Body) → Within (length b) i body → fieldsFrom (b ++ later) i body ≡ fieldsFrom b i body
+fields-more b later i (one f) (l, w) =
+    ap (λ (x : ℕ). fieldsFrom (b ++ later) (i + 1) (f x)) (List·getD-append b later 0 i l) ∙ fields-more b later (i + 1) (f (b # i)) (w (b # i))
+fields-more b later i (two f) (l, w) =
+    let x = List·getD-append b later 0 i (omega (arith, l)) in
+    let y = List·getD-append b later 0 (i + 1) l in
+    (λ j. fieldsFrom (b ++ later) (i + 2) (f (pair (x j) (y j)))) ∙ fields-more b later (i + 2) (f (pairAt b i)) (w (pairAt b i))
+fields-more b later i (four f) (l, w) =
+    let x = List·getD-append b later 0 i (omega (arith, l)) in
+    let y = List·getD-append b later 0 (i + 1) (omega (arith, l)) in
+    let z = List·getD-append b later 0 (i + 2) (omega (arith, l)) in
+    let t = List·getD-append b later 0 (i + 3) l in
+    (λ j. fieldsFrom (b ++ later) (i + 4) (f (quad (x j) (y j) (z j) (t j)))) ∙ fields-more b later (i + 4) (f (quadAt b i)) (w (quadAt b i))
+fields-more b later i (make q) w = refl
+
 module _ (kind : ℕ) (rest : List ℕ) where
-  -- a whole request is there with all of its body
-  pub whole-fits : (q : Request) → frameOf (kind ∷ rest) ≡ Whole q → bodyLength kind ≤ length rest
-  unfolding bodyLength
-  whole-fits q e = by (find rows kind) (sym (row-decides kind rest) ∙ e)
+  -- a whole request is read as the same one whatever follows
+  whole-first : (q : Request) → frameOf (kind ∷ rest) ≡ Whole q → (later : List ℕ) → frameOf (kind ∷ rest ++ later) ≡ Whole q
+  whole-first q e later = row-decides kind (rest ++ later) ∙ by (find rows kind) refl (sym (row-decides kind rest) ∙ e)
     where
-      fits : (r : Row) (t : Bool) → leb (length (kind ∷ rest)) (r .length) ≡ t → cond t Cut (Whole (fieldsFrom (kind ∷ rest) 1 (r .body))) ≡ Whole q → r .length ≤ length rest
-      fits r true l e = let z : _≡_ {A = ℕ} 0 1 = cc in differ z
-      fits r false l e = let h = leb-false (length (kind ∷ rest)) (r .length) l in omega (arith, h)
+      of-row : (r : Row) → Reads (length (kind ∷ rest)) r → (t : Bool) → leb (length (kind ∷ rest)) (r .length) ≡ t
+          → cond t Cut (Whole (fieldsFrom (kind ∷ rest) 1 (r .body))) ≡ Whole q → frameAt (at r) (kind ∷ rest ++ later) ≡ Whole q
+      of-row r within true l e = differ cc
+      of-row r within false l e =
+          let longer : r .length < length (kind ∷ rest) = leb-false (length (kind ∷ rest)) (r .length) l in
+          let still : leb (length (kind ∷ rest ++ later)) (r .length) ≡ false = lt-leb (length (kind ∷ rest ++ later)) (r .length) (omega (arith, longer, length-append rest later)) in
+          rw still (ap (λ (p : Request). Whole p) (fields-more (kind ∷ rest) later 1 (r .body) (within longer)) ∙ e)
 
-      by : (s : Sought) → frameAt s (kind ∷ rest) ≡ Whole q → lengthAt s ≤ length rest
-      by none e = let z : _≡_ {A = ℕ} 0 1 = cc in differ z
-      by (at r) e = fits r (leb (length (kind ∷ rest)) (r .length)) refl e
+      by : (s : Sought) → find rows kind ≡ s → frameAt s (kind ∷ rest) ≡ Whole q → frameAt s (kind ∷ rest ++ later) ≡ Whole q
+      by none f e = differ cc
+      by (at r) f e = of-row r (found (Reads (length (kind ∷ rest))) kind r rows (all-within (length (kind ∷ rest))) f .holds) (leb (length (kind ∷ rest)) (r .length)) refl e
 
-  -- and is read as the same request whatever follows
-  pub whole-more : ((i : ℕ) → (kind ∷ rest) # i < 256) → (q : Request) → frameOf (kind ∷ rest) ≡ Whole q → (later : List ℕ) → frameOf (kind ∷ rest ++ later) ≡ Whole q
-  whole-more bytes q e later =
-      let more : List ℕ = drop (1 + bodyLength kind) (kind ∷ rest) in
-      let back : kind ∷ rest ≡ written q ++ more = read-is-written (kind ∷ rest) bytes q e in
-      ap frameOf (ap (λ (b : List ℕ). b ++ later) back ∙ append-assoc (written q) more later) ∙ written-is-read q (more ++ later)
-
-  pub unknown-more : frameOf (kind ∷ rest) ≡ Unknown → (later : List ℕ) → frameOf (kind ∷ rest ++ later) ≡ Unknown
-  unknown-more e later = row-decides kind (rest ++ later) ∙ by (find rows kind) (sym (row-decides kind rest) ∙ e)
+  unknown-first : frameOf (kind ∷ rest) ≡ Unknown → (later : List ℕ) → frameOf (kind ∷ rest ++ later) ≡ Unknown
+  unknown-first e later = row-decides kind (rest ++ later) ∙ by (find rows kind) (sym (row-decides kind rest) ∙ e)
     where
       of-row : (r : Row) (t : Bool) → cond t Cut (Whole (fieldsFrom (kind ∷ rest) 1 (r .body))) ≡ Unknown → frameAt (at r) (kind ∷ rest ++ later) ≡ Unknown
-      of-row r true e = let z : _≡_ {A = ℕ} 0 1 = cc in differ z
-      of-row r false e = let z : _≡_ {A = ℕ} 0 1 = cc in differ z
+      of-row r true e = differ cc
+      of-row r false e = differ cc
 
       by : (s : Sought) → frameAt s (kind ∷ rest) ≡ Unknown → frameAt s (kind ∷ rest ++ later) ≡ Unknown
       by none e = refl
       by (at r) e = of-row r (leb (length (kind ∷ rest)) (r .length)) e
 
   -- a cut request has at most eight of its bytes
-  pub cut-short : frameOf (kind ∷ rest) ≡ Cut → length (kind ∷ rest) ≤ 8
+  cut-short : frameOf (kind ∷ rest) ≡ Cut → length (kind ∷ rest) ≤ 8
   cut-short e = by (find rows kind) refl (sym (row-decides kind rest) ∙ e)
     where
       of-row : (r : Row) → Short r → (t : Bool) → leb (length (kind ∷ rest)) (r .length) ≡ t → cond t Cut (Whole (fieldsFrom (kind ∷ rest) 1 (r .body))) ≡ Cut → length (kind ∷ rest) ≤ 8
       of-row r short true l e = let h = leb-true (length (kind ∷ rest)) (r .length) l in omega (arith, h, short)
-      of-row r short false l e = let z : _≡_ {A = ℕ} 0 1 = cc in differ z
+      of-row r short false l e = differ cc
 
       by : (s : Sought) → find rows kind ≡ s → frameAt s (kind ∷ rest) ≡ Cut → length (kind ∷ rest) ≤ 8
-      by none f e = let z : _≡_ {A = ℕ} 0 1 = cc in differ z
+      by none f e = differ cc
       by (at r) f e = of-row r (found Short kind r rows all-short f .holds) (leb (length (kind ∷ rest)) (r .length)) refl e
 
-pub cut-few : (R : List ℕ) → frameOf R ≡ Cut → length R ≤ 8
+whole-more : (b : List ℕ) (q : Request) → frameOf b ≡ Whole q → (later : List ℕ) → frameOf (b ++ later) ≡ Whole q
+whole-more [] q e later = absurd (omega (arith, whole-is [] q e .inside))
+whole-more (kind ∷ rest) q e later = whole-first kind rest q e later
+
+unknown-more : (b : List ℕ) → 0 < length b → frameOf b ≡ Unknown → (later : List ℕ) → frameOf (b ++ later) ≡ Unknown
+unknown-more [] l e later = absurd (omega (arith, l))
+unknown-more (kind ∷ rest) l e later = unknown-first kind rest e later
+
+cut-few : (b : List ℕ) → frameOf b ≡ Cut → length b ≤ 8
 cut-few [] e = omega arith
 cut-few (kind ∷ rest) e = cut-short kind rest e
 
--- where nothing is left, nothing but more bytes can be waited for
-pub nothing-waits : (R : List ℕ) → R ≡ [] → frameOf R ≡ Cut
-nothing-waits R e = sym (empty R (ap length e))
+-- ---- a series
+abbrev pub prepend : List Request → Series → Series
+prepend qs s = record { requests = qs ++ s .requests; end = s .end }
+
+-- what follows a series, b being its last bytes and more: nothing after an unknown kind
+abbrev pub onwards : End → List ℕ → Series
+onwards no-bytes b = seriesOf b
+onwards (unknown-kind kind) b = ends (unknown-kind kind)
+onwards (cut-body kind) b = seriesOf b
+
+-- the bytes of a series' first request, and of the others
+both : (b : List ℕ) (q : Request) → frameOf b ≡ Whole q → (W : List ℕ) → length (written q ++ W) ≡ suc (bodyLength (b # 0)) + length W
+both b q f W = length-append (written q) W ∙ ap (λ (n : ℕ). n + length W) (whole-is b q f .size)
+
+past-both : (b : List ℕ) (q : Request) → frameOf b ≡ Whole q → (W : List ℕ) → drop (length W) (drop (suc (bodyLength (b # 0))) b) ≡ drop (length (written q ++ W)) b
+past-both b q f W = drop-drop (length W) (suc (bodyLength (b # 0))) b ∙ ap (λ (n : ℕ). drop n b) (sym (both b q f W))
+
+pub more-follows : {b : List ℕ} {s : Series} → Cuts b s → (later : List ℕ)
+    → seriesOf (b ++ later) ≡ prepend (s .requests) (onwards (s .end) (drop (length (writtenOut (s .requests))) b ++ later))
+more-follows (nothing e) later = refl
+more-follows {b} (unknown l f) later =
+    series-unknown (b ++ later) (unknown-more b l f later) ∙ ap (λ (kind : ℕ). ends (unknown-kind kind)) (List·getD-append b later 0 0 l)
+more-follows (cut l f) later = refl
+more-follows {b} (whole l q f s rest) later =
+    let n : ℕ = suc (bodyLength (b # 0)) in
+    let inside = whole-is b q f .inside in
+    series-whole (b ++ later) q (whole-more b q f later)
+    ∙ ap (λ (kind : ℕ). before q (seriesOf (drop (suc (bodyLength kind)) (b ++ later)))) (List·getD-append b later 0 0 l)
+    ∙ ap (λ (x : List ℕ). before q (seriesOf x)) (drop-append-le n b later (omega (arith, inside)))
+    ∙ ap (before q) (more-follows rest later)
+    ∙ ap (λ (x : List ℕ). before q (prepend (s .requests) (onwards (s .end) (x ++ later)))) (past-both b q f (writtenOut (s .requests)))
+
+-- the bytes of the requests are all there
+pub used-inside : {b : List ℕ} {s : Series} → Cuts b s → length (writtenOut (s .requests)) ≤ length b
+used-inside (nothing e) = omega arith
+used-inside (unknown l f) = omega arith
+used-inside (cut l f) = omega arith
+used-inside {b} (whole l q f s rest) =
+    let n : ℕ = suc (bodyLength (b # 0)) in
+    omega (arith, both b q f (writtenOut (s .requests)), used-inside rest, length-drop n b, whole-is b q f .inside)
+
+-- a request that waits has at most eight of its bytes
+pub few-wait : {b : List ℕ} {s : Series} → Cuts b s → readsOn false (s .end) ≡ true → length (drop (length (writtenOut (s .requests))) b) ≤ 8
+few-wait (nothing e) goes = omega (arith, ap length e)
+few-wait (unknown l f) goes = differ cc
+few-wait {b} (cut l f) goes = cut-few b f
+few-wait {b} (whole l q f s rest) goes = subst (λ (x : List ℕ). length x ≤ 8) (past-both b q f (writtenOut (s .requests))) (few-wait rest goes)
+
+-- an answer takes a byte at least
+pub few-answers : {b : List ℕ} {s : Series} → Cuts b s → (ended : Bool) (d : Desk House Change) → length (givenTo ended d s) ≤ length b
+few-answers (nothing e) ended d = omega arith
+few-answers (unknown l f) ended d = omega (arith, l)
+few-answers (cut l f) true d = omega (arith, l)
+few-answers (cut l f) false d = omega arith
+few-answers {b} (whole l q f s rest) ended d =
+    let n : ℕ = suc (bodyLength (b # 0)) in
+    omega (arith, few-answers rest ended (step deskRules d q .desk), length-drop n b, whole-is b q f .inside)

@@ -1,185 +1,222 @@
--- One request after the other, and one piece after the other.
+-- One request after the other, and a piece behind the bytes that wait.
 use mathlib.Core.Path.{_≡_, refl, sym, ap, _∙_, subst}
-use mathlib.Core.Bool.{Bool, true, false, cond}
-use mathlib.Core.List.{List, [], _∷_, _++_, append-assoc, append-nil}
-use Prim.Native.Nat.{ℕ, zero, suc, _+_, _-_, _*_, _≤_, _<_}
+use mathlib.Core.Bool.{Bool, true, false, cond, not}
+use mathlib.Core.List.{List, [], _++_, append-assoc, append-nil}
+use Prim.Native.Nat.{ℕ, suc, _+_, _-_, _*_, _≤_, _<_}
 use native.Mathlib.Omega.{arith}
-use native.Mathlib.Numerals.{add-one}
-use lib.ListN.{length, take, drop, length-drop}
-use lib.Seq.{take-add, drop-at, drop-length, length-take-le, take-all, drop-drop, drop-append-le}
+use native.Mathlib.Nat.{zero-add, add-assoc}
+use lib.Dec.{eqb}
+use lib.ListN.{length, take, drop, length-drop, length-append}
+use lib.Seq.{take-add, drop-at, drop-length, length-take-le, take-all, drop-drop}
 use Rattle.request.specs.Bytes.{_#_}
 use Rattle.request.specs.Kinds.{bodyLength}
 use Rattle.request.specs.Reading.{frameOf}
+use Rattle.request.specs.Writing.{written}
+use Rattle.request.specs.Framing.{End, no-bytes, unknown-kind, cut-body, Series, byFrame, seriesOf, writtenOut}
+use Rattle.request.specs.declared.Frame.{Frame}
 use Rattle.request.specs.declared.Frame.the-variants.{Whole, Unknown, Cut}
 use Rattle.request.specs.declared.Request.{Request}
+use Rattle.request.proofs.Framing.{whole-is, series-empty, series-unknown, series-cut, series-whole, cuts}
 use Rattle.records.specs.House.{House}
 use Rattle.effects.specs.declared.Change.{Change}
-use Rattle.history.specs.Machine.{Desk, Outcome, outcome, opened, step}
+use Rattle.history.specs.Machine.{Desk, Outcome, outcome, step, run}
 use Rattle.history.specs.Desk.{deskRules}
 use Rattle.history.specs.declared.Answer.{Answer}
 use Rattle.history.specs.declared.Answer.the-variants.{Refused}
 use Rattle.desk.specs.Lines.{lineOf, Put}
-use Rattle.desk.specs.Printed.{printedFrom, printed}
-use Rattle.desk.specs.Pieces.{soFar, Went, Left, NextIs, AllIs}
+use Rattle.desk.specs.Answers.{givenTo}
+use Rattle.desk.specs.Printed.{linesFrom}
+use Rattle.desk.specs.Turns.{Done, readsOn, doneWith, allOf, Stand, stand, turn, turnedBy, TurnIs}
+use Rattle.desk.specs.Steps.{soFar, done, oneOf, Made}
 use Rattle.desk.specs.declared.answers.Progress.{Progress}
 use Rattle.desk.proofs.Texts.{line-short}
-use Rattle.desk.proofs.Frames.{whole-fits, whole-more, unknown-more, cut-few, nothing-waits}
+use Rattle.desk.proofs.Frames.{used-inside, few-wait, few-answers}
 
-never : {A : Type 0} → false ≡ true → A
-never e = let z : _≡_ {A = ℕ} 0 1 = cc in absurd (omega arith)
+-- u bytes and a text come before what x tells
+abbrev behind : ℕ → List ℕ → Done → Done
+behind u text x = done (x .desk) (x .ordinal) (u + x .used) (text ++ x .text) (x .onward)
 
--- the bytes of an answered request are passed over
-passed : (n : ℕ) (d : Desk House Change) (k : ℕ) (input : List ℕ) → printedFrom n d k input ≡ printedFrom 0 d k (drop n input)
-unfolding printedFrom
-passed zero d k input = refl
-passed (suc n) d k [] = refl
-passed (suc n) d k (b ∷ rest) = passed n d k rest
+behind-twice : (u v : ℕ) (s t : List ℕ) (x : Done) → behind u s (behind v t x) ≡ behind (u + v) (s ++ t) x
+behind-twice u v s t x =
+    let a = sym (add-assoc u v (x .used)) in
+    let b = sym (append-assoc s t (x .text)) in
+    λ i. done (x .desk) (x .ordinal) (a i) (b i) (x .onward)
 
--- ---- one request
-module _ (d : Desk House Change) (k kind : ℕ) (rest : List ℕ) (ends : Bool) where
-  went-whole : ((i : ℕ) → (kind ∷ rest) # i < 256) → (q : Request) → frameOf (kind ∷ rest) ≡ Whole q
-      → Went d k (kind ∷ rest) ends (step deskRules d q .desk) (k + 1) (bodyLength kind + 1) false (lineOf k kind (step deskRules d q .answer))
-  unfolding printedFrom
-  went-whole bytes q e =
-      let n : ℕ = bodyLength kind in
-      let fits : n ≤ length rest = whole-fits kind rest q e in
-      record {
-        in-piece = omega arith;
-        counted = omega arith;
-        prints = λ later _.
-            rw (whole-more kind rest bytes q e later, add-one n)
-            (ap (λ (more : List ℕ). lineOf k kind (step deskRules d q .answer) ++ more)
-            (passed n (step deskRules d q .desk) (k + 1) (rest ++ later)
-            ∙ ap (printedFrom 0 (step deskRules d q .desk) (k + 1)) (drop-append-le n rest later fits)));
-      }
+-- ---- one request, as its frame tells
+module _ (ended : Bool) (d : Desk House Change) (k : ℕ) (R O : List ℕ) (at text : ℕ) (O′ : List ℕ) where
+  pub made-whole : (q : Request) (a : Answer) (d′ : Desk House Change) (n : ℕ) → Whole q ≡ frameOf R → outcome d′ a ≡ step deskRules d q → n ≡ bodyLength (R # 0)
+      → Put O at (lineOf k (R # 0) a) text O′ → Made (oneOf ended d k R) O at d′ (soFar (k + 1) (n + 1) text true) O′
+  made-whole q a d′ n f o is-n put =
+      rw (sym f)
+      (record {
+        desk = ap (λ (x : Outcome House Change). x .desk) o;
+        ordinal = refl;
+        used = omega (arith, is-n);
+        put = subst (λ (x : Outcome House Change). Put O at (lineOf k (R # 0) (x .answer)) text O′) o put;
+        onward = refl;
+      })
 
-  went-unknown : frameOf (kind ∷ rest) ≡ Unknown → Went d k (kind ∷ rest) ends d k 0 true (lineOf k kind (Refused 1))
-  unfolding printedFrom
-  went-unknown e =
-      record { in-piece = omega arith; counted = omega arith; prints = λ later _. rw (unknown-more kind rest e later) (sym (append-nil (lineOf k kind (Refused 1)))) }
+  pub made-unknown : Unknown ≡ frameOf R → Put O at (lineOf k (R # 0) (Refused 1)) text O′ → Made (oneOf ended d k R) O at d (soFar (k + 1) 0 text false) O′
+  made-unknown f put = rw (sym f) (record { desk = refl; ordinal = refl; used = refl; put = put; onward = refl })
 
-  went-cut : frameOf (kind ∷ rest) ≡ Cut → ends ≡ true → Went d k (kind ∷ rest) ends d k 0 true (lineOf k kind (Refused 2))
-  unfolding printedFrom
-  went-cut e is-end =
-      record {
-        in-piece = omega arith;
-        counted = omega arith;
-        prints = λ later last.
-            ap (λ (l : List ℕ). printedFrom 0 d k ((kind ∷ rest) ++ l)) (last is-end)
-            ∙ ap (printedFrom 0 d k) (append-nil (kind ∷ rest))
-            ∙ rw e (sym (append-nil (lineOf k kind (Refused 2))));
-      }
+  pub made-cut : Cut ≡ frameOf R → ended ≡ true → Put O at (lineOf k (R # 0) (Refused 2)) text O′ → Made (oneOf ended d k R) O at d (soFar (k + 1) 0 text false) O′
+  made-cut f e put = rw (sym f, e) (record { desk = refl; ordinal = refl; used = refl; put = put; onward = refl })
 
-pub went-nowhere : (d : Desk House Change) (k : ℕ) (R : List ℕ) (ends : Bool) → Went d k R ends d k 0 false []
-went-nowhere d k R ends = record { in-piece = omega arith; counted = omega arith; prints = λ later _. refl }
+pub made-waits : (ended : Bool) (d : Desk House Change) (k : ℕ) (R O : List ℕ) (at : ℕ) → Cut ≡ frameOf R → ended ≡ false → Made (oneOf ended d k R) O at d (soFar k 0 at true) O
+made-waits ended d k R O at f e =
+    rw (sym f, e) (record { desk = refl; ordinal = refl; used = refl; put = record { ends = omega arith; is = sym (append-nil (take at O)) }; onward = refl })
 
--- the answer's line was put behind the others
-module _ (d : Desk House Change) (k : ℕ) (ends : Bool) (O : List ℕ) (at text : ℕ) (O′ : List ℕ) where
-  line-is : (kind : ℕ) (rest : List ℕ) (a : Answer) (d′ : Desk House Change) (k′ used : ℕ) (stopped : Bool)
-      → Went d k (kind ∷ rest) ends d′ k′ used stopped (lineOf k kind a) → (stopped ≡ false → used ≡ 0 → ⊥) → Put O at (lineOf k kind a) text O′
-      → NextIs d k (kind ∷ rest) ends O at d′ (soFar k′ used text stopped) O′
-  line-is kind rest a d′ k′ used stopped went some put =
-      record {
-        text = lineOf k kind a;
-        went = went;
-        short = line-short k kind a;
-        ends-at = put .ends;
-        collected = put .is;
-        waits = λ s z. absurd (some s z);
-      }
+-- ---- the first request decides: nothing more is done with the bytes, or it is answered and the rest follows
+data Next (ended : Bool) (d : Desk House Change) (k : ℕ) (b : List ℕ) : Done → Type 0 where
+  last : {x : Done} → x .used ≡ 0 → length (x .text) ≤ 64 → allOf ended d k b ≡ x → Next ended d k b x
+  more : {x : Done} → 0 < x .used → x .used ≤ length b → x .ordinal ≡ k + 1 → length (x .text) ≤ 64
+      → allOf ended d k b ≡ behind (x .used) (x .text) (allOf ended (x .desk) (x .ordinal) (drop (x .used) b)) → Next ended d k b x
 
-  pub next-whole : (R : List ℕ) → 0 < length R → ((i : ℕ) → R # i < 256) → (q : Request) (a : Answer) (d′ : Desk House Change) (n : ℕ) → Whole q ≡ frameOf R
-      → outcome d′ a ≡ step deskRules d q → n ≡ bodyLength (R # 0) → Put O at (lineOf k (R # 0) a) text O′
-      → NextIs d k R ends O at d′ (soFar (k + 1) (n + 1) text false) O′
-  next-whole [] some bytes q a d′ n f o is-n put = absurd (omega (arith, some))
-  next-whole (kind ∷ rest) some bytes q a d′ n f o is-n put =
-      line-is kind rest a d′ (k + 1) (n + 1) false
-      (rw is-n
-      (subst (λ (x : Outcome House Change). Went d k (kind ∷ rest) ends (x .desk) (k + 1) (bodyLength kind + 1) false (lineOf k kind (x .answer))) (sym o)
-      (went-whole d k kind rest ends bytes q (sym f))))
-      (λ _ z. omega (arith, z)) put
+next : (ended : Bool) (d : Desk House Change) (k : ℕ) (b : List ℕ) → 0 < length b → Next ended d k b (oneOf ended d k b)
+next ended d k b some = by (frameOf b) refl ended
+  where
+    refused : (e : Bool) (n : ℕ) (s : Series) → seriesOf b ≡ s → doneWith e d k s ≡ done d (k + 1) 0 (lineOf k (b # 0) (Refused n) ++ []) false
+        → allOf e d k b ≡ done d (k + 1) 0 (lineOf k (b # 0) (Refused n)) false
+    refused e n s is same = ap (doneWith e d k) is ∙ same ∙ ap (λ (t : List ℕ). done d (k + 1) 0 t false) (append-nil (lineOf k (b # 0) (Refused n)))
 
-  pub next-unknown : (R : List ℕ) → 0 < length R → Unknown ≡ frameOf R → Put O at (lineOf k (R # 0) (Refused 1)) text O′
-      → NextIs d k R ends O at d (soFar k 0 text true) O′
-  next-unknown [] some f put = absurd (omega (arith, some))
-  next-unknown (kind ∷ rest) some f put = line-is kind rest (Refused 1) d k 0 true (went-unknown d k kind rest ends (sym f)) (λ s _. never (sym s)) put
+    by : (f : Frame) → frameOf b ≡ f → (ended : Bool)
+        → Next ended d k b (byFrame f (done d (k + 1) 0 (lineOf k (b # 0) (Refused 1)) false)
+        (cond ended (done d (k + 1) 0 (lineOf k (b # 0) (Refused 2)) false) (done d k 0 [] true))
+        (λ (q : Request). done (step deskRules d q .desk) (k + 1) (suc (bodyLength (b # 0))) (lineOf k (b # 0) (step deskRules d q .answer)) true))
+    by Unknown f ended = last refl (line-short k (b # 0) (Refused 1)) (refused ended 1 _ (series-unknown b f) refl)
+    by Cut f true = last refl (line-short k (b # 0) (Refused 2)) (refused true 2 _ (series-cut b some f) refl)
+    by Cut f false =
+        let e : k + 0 ≡ k = omega arith in
+        last {x = done d k 0 [] true} refl (omega arith) (ap (doneWith false d k) (series-cut b some f) ∙ ap (λ (n : ℕ). done d n 0 [] true) e)
+    by (Whole q) f ended =
+        let n : ℕ = suc (bodyLength (b # 0)) in
+        let w = whole-is b q f in
+        let inside = w .inside in
+        let e : Desk House Change = step deskRules d q .desk in
+        let s : Series = seriesOf (drop n b) in
+        let counted : k + suc (length (givenTo ended e s)) ≡ k + 1 + length (givenTo ended e s) = omega arith in
+        let size : length (written q ++ writtenOut (s .requests)) ≡ n + length (writtenOut (s .requests)) =
+        length-append (written q) (writtenOut (s .requests)) ∙ ap (λ (m : ℕ). m + length (writtenOut (s .requests))) (w .size) in
+        let kind = w .kind in
+        more {x = done e (k + 1) n (lineOf k (b # 0) (step deskRules d q .answer)) true} (omega arith) (omega (arith, inside)) refl (line-short k (b # 0) (step deskRules d q .answer))
+        (ap (doneWith ended d k) (series-whole b q f)
+        ∙ (λ i. done (run deskRules e (s .requests)) (counted i) (size i) (lineOf k (kind i) (step deskRules d q .answer) ++ linesFrom (k + 1) (givenTo ended e s)) (readsOn ended (s .end))))
 
-  pub next-cut : (R : List ℕ) → 0 < length R → Cut ≡ frameOf R → ends ≡ true → Put O at (lineOf k (R # 0) (Refused 2)) text O′
-      → NextIs d k R ends O at d (soFar k 0 text true) O′
-  next-cut [] some f is-end put = absurd (omega (arith, some))
-  next-cut (kind ∷ rest) some f is-end put = line-is kind rest (Refused 2) d k 0 true (went-cut d k kind rest ends (sym f) is-end) (λ s _. never (sym s)) put
+-- ---- the loop over a piece: R is the piece, of which u bytes are used, and the lines so far end at `at`
+pub record SoFar (ended : Bool) (d : Desk House Change) (k : ℕ) (R : List ℕ) (d₁ : Desk House Change) (k₁ u at : ℕ) (O : List ℕ) : Type 0 where
+  pub in-piece : u ≤ length R
+  pub counted : k₁ ≤ k + u
+  pub short : at ≤ 64 * u
+  pub is : allOf ended d k R ≡ behind u (take at O) (allOf ended d₁ k₁ (drop u R))
 
-pub next-waits : (d : Desk House Change) (k : ℕ) (R : List ℕ) (ends : Bool) (O : List ℕ) (at : ℕ) → 0 < length R → Cut ≡ frameOf R → ends ≡ false
-    → NextIs d k R ends O at d (soFar k 0 at false) O
-next-waits d k [] ends O at some f open′ = absurd (omega (arith, some))
-next-waits d k (kind ∷ rest) ends O at some f open′ =
+pub at-first : (ended : Bool) (d : Desk House Change) (k : ℕ) (R O : List ℕ) → SoFar ended d k R d k 0 0 O
+at-first ended d k R O =
+    let x : Done = allOf ended d k R in
+    let z = sym (zero-add (x .used)) in
+    record { in-piece = omega arith; counted = omega arith; short = omega arith; is = λ i. done (x .desk) (x .ordinal) (z i) (x .text) (x .onward) }
+
+made : (x : Done) (d : Desk House Change) (k u at : ℕ) (O O₀ : List ℕ) (g : Bool) → x ≡ done d k u (take at O) g → at ≤ length O → Made x O₀ 0 d (soFar k u at g) O
+made x d k u at O O₀ g e room =
+    let size : length (x .text) ≡ at = ap (λ (y : Done). length (y .text)) e ∙ length-take-le at O room in
     record {
-      text = [];
-      went = went-nowhere d k (kind ∷ rest) ends;
-      short = omega arith;
-      ends-at = omega arith;
-      collected = sym (append-nil (take at O));
-      waits = λ _ _. (refl, record { waits = sym f; none = λ e. never (sym open′ ∙ e) });
-    }
-
--- ---- one after the other
-pub onward : {d : Desk House Change} {k : ℕ} {R : List ℕ} {ends : Bool} {d₁ : Desk House Change} {k₁ u : ℕ} {s : List ℕ} {d₂ : Desk House Change} {k₂ v : ℕ} {stopped : Bool} {t : List ℕ}
-    → Went d k R ends d₁ k₁ u false s → Went d₁ k₁ (drop u R) ends d₂ k₂ v stopped t → Went d k R ends d₂ k₂ (u + v) stopped (s ++ t)
-onward {R = R} {u = u} {s = s} {d₂ = d₂} {k₂ = k₂} {v = v} {stopped = stopped} {t = t} p q =
-    record {
-      in-piece = omega (arith, p .in-piece, q .in-piece, length-drop u R);
-      counted = omega (arith, p .counted, q .counted);
-      prints = λ later last.
-          p .prints later last
-          ∙ ap (λ (x : List ℕ). s ++ x) (q .prints later last)
-          ∙ sym (append-assoc s t (cond stopped [] (printedFrom 0 d₂ k₂ (drop v (drop u R) ++ later))))
-          ∙ ap (λ (x : List ℕ). (s ++ t) ++ cond stopped [] (printedFrom 0 d₂ k₂ (x ++ later))) (drop-drop v u R);
+      desk = sym (ap (λ (y : Done). y .desk) e);
+      ordinal = sym (ap (λ (y : Done). y .ordinal) e);
+      used = sym (ap (λ (y : Done). y .used) e);
+      put = record { ends = omega (arith, size); is = sym (ap (λ (y : Done). y .text) e) };
+      onward = sym (ap (λ (y : Done). y .onward) e);
     }
 
 pub part-length : (u : ℕ) (R : List ℕ) → length (take (length R - u) (drop u R)) ≡ length R - u
 part-length u R = let e = length-drop u R in length-take-le (length R - u) (drop u R) (omega arith)
 
--- ---- the loop over a piece: R is the piece, of which u bytes are used, and the lines so far end at `at`
-module _ {d : Desk House Change} {k : ℕ} {R : List ℕ} {ends : Bool} {d₁ : Desk House Change} {k₁ u at : ℕ} {O : List ℕ} (so-far : Went d k R ends d₁ k₁ u false (take at O))
+module _ {ended : Bool} {d : Desk House Change} {k : ℕ} {R : List ℕ} {d₁ : Desk House Change} {k₁ u at : ℕ} {O : List ℕ} (so-far : SoFar ended d k R d₁ k₁ u at O) (O₀ : List ℕ)
   where
-    pub all-used : length R ≤ u → at ≤ length O → AllIs d k R ends d₁ (soFar k₁ u at false) O
+    pub all-used : length R ≤ u → at ≤ length O → Made (allOf ended d k R) O₀ 0 d₁ (soFar k₁ u at (not ended)) O
     all-used l room =
         let all-of : u ≡ length R = omega (arith, so-far .in-piece) in
         let gone : drop u R ≡ [] = ap (λ (j : ℕ). drop j R) all-of ∙ drop-length R in
-        record { counts = (room, sym (length-take-le at O room)); went = so-far; left = λ _. record { waits = nothing-waits (drop u R) gone; none = λ _. gone } }
+        let k-same : k₁ + 0 ≡ k₁ = omega arith in
+        let u-same : u + 0 ≡ u = omega arith in
+        let t-same = append-nil (take at O) in
+        made (allOf ended d k R) d₁ k₁ u at O O₀ (not ended)
+        (so-far .is ∙ ap (λ (b : List ℕ). behind u (take at O) (allOf ended d₁ k₁ b)) gone ∙ ap (λ (s : Series). behind u (take at O) (doneWith ended d₁ k₁ s)) series-empty
+        ∙ (λ i. done d₁ (k-same i) (u-same i) (t-same i) (not ended)))
+        room
 
-    module _ (j : ℕ) (is-j : j ≡ length R - u) {d₂ : Desk House Change} (r : Progress) (O′ : List ℕ) (next : NextIs d₁ k₁ (take j (drop u R)) ends O at d₂ r O′) where
-      next′ : NextIs d₁ k₁ (drop u R) ends O at d₂ r O′
-      next′ = subst (λ (P : List ℕ). NextIs d₁ k₁ P ends O at d₂ r O′) (take-all j (drop u R) (simp length-drop (omega arith))) next
+    -- the first of the bytes that are left: it is used whole, or not at all
+    module _ (less : u < length R) where
+      abbrev x : Done
+      x = oneOf ended d₁ k₁ (drop u R)
 
-      pub step-on : (stopped : Bool) → r .stopped ≡ stopped → Went d k R ends d₂ (r .ordinal) (u + r .used) stopped (take (r .text) O′)
-      step-on stopped e =
-          subst (λ (t : List ℕ). Went d k R ends d₂ (r .ordinal) (u + r .used) stopped t) (sym (next′ .collected))
-          (onward so-far (subst (λ (s : Bool). Went d₁ k₁ (drop u R) ends d₂ (r .ordinal) (r .used) s (next′ .text)) e (next′ .went)))
+      abbrev part : List ℕ
+      part = take (length R - u) (drop u R)
 
-      pub all-stopped : r .stopped ≡ true → r .text ≤ length O′ → AllIs d k R ends d₂ (soFar (r .ordinal) (u + r .used) (r .text) true) O′
-      all-stopped e room =
-          record { counts = (room, sym (length-take-le (r .text) O′ room)); went = step-on true e; left = λ f. never (sym f) }
+      all-of-part : part ≡ drop u R
+      all-of-part = take-all (length R - u) (drop u R) (simp length-drop (omega arith))
 
-      pub all-waits : r .stopped ≡ false → r .used ≡ 0 → r .text ≤ length O′ → AllIs d k R ends d₂ (soFar (r .ordinal) (u + r .used) (r .text) false) O′
-      all-waits e z room =
-          let left : Left (drop u R) ends 0 = next′ .waits e z .1 in
-          let same : u + r .used ≡ u = omega (arith, z) in
-          record {
-            counts = (room, sym (length-take-le (r .text) O′ room));
-            went = step-on false e;
-            left = λ _. record { waits = ap (λ (v : ℕ). frameOf (drop v R)) same ∙ left .waits; none = λ l. ap (λ (v : ℕ). drop v R) same ∙ left .none l };
-          }
+      then-next : Next ended d₁ k₁ (drop u R) x
+      then-next = next ended d₁ k₁ (drop u R) (omega (arith, length-drop u R, less))
 
--- ---- the loop that reads: of an input that begins with `read`, `text` is printed; `kept` is not used yet
-pub record Reading (d : Desk House Change) (k : ℕ) (kept : List ℕ) : Type 0 where
-  pub read : List ℕ
-  pub text : List ℕ
-  pub prints : (later : List ℕ) → printed (read ++ later) ≡ text ++ printedFrom 0 d k (kept ++ later)
+      pub used-fits : (n : ℕ) → n ≡ oneOf ended d₁ k₁ part .used → u + n ≤ length R
+      used-fits n is-n = of then-next (is-n ∙ ap (λ (b : List ℕ). oneOf ended d₁ k₁ b .used) all-of-part)
+        where
+          of : {y : Done} → Next ended d₁ k₁ (drop u R) y → n ≡ y .used → u + n ≤ length R
+          of (last z short e) same = omega (arith, z, same, less)
+          of (more some fits count short e) same = omega (arith, fits, same, less, length-drop u R)
 
-pub at-first : {d : Desk House Change} → d ≡ opened deskRules 0 → (buf : List ℕ) → Reading d 1 (take 0 buf)
-at-first e buf = record { read = []; text = []; prints = λ later. ap (λ (d : Desk House Change). printedFrom 0 d 1 later) (sym e) }
+    module _ (less : u < length R) {d₂ : Desk House Change} (r : Progress) (O′ : List ℕ) (next-made : Made (oneOf ended d₁ k₁ (part less)) O at d₂ r O′) where
+      made-next : Made (x less) O at d₂ r O′
+      made-next = subst (λ (P : List ℕ). Made (oneOf ended d₁ k₁ P) O at d₂ r O′) (all-of-part less) next-made
 
+      told : (y : Done) → allOf ended d₁ k₁ (drop u R) ≡ y → allOf ended d k R ≡ behind u (take at O) y
+      told y e = so-far .is ∙ ap (behind u (take at O)) e
+
+      line-short′ : length (x less .text) ≤ 64
+      line-short′ = of (then-next less)
+        where
+          of : {y : Done} → Next ended d₁ k₁ (drop u R) y → length (y .text) ≤ 64
+          of (last z short e) = short
+          of (more some fits count short e) = short
+
+      pub text-fits : r .text ≤ at + 64
+      text-fits = omega (arith, made-next .put .ends, line-short′)
+
+      -- nothing more is done with the bytes
+      pub stays : r .used ≡ 0 → r .text ≤ length O′ → Made (allOf ended d k R) O₀ 0 d₂ (soFar (r .ordinal) (u + r .used) (r .text) (r .onward)) O′
+      stays none room = of (then-next less) refl
+        where
+          of : {y : Done} → Next ended d₁ k₁ (drop u R) y → y ≡ x less → Made (allOf ended d k R) O₀ 0 d₂ (soFar (r .ordinal) (u + r .used) (r .text) (r .onward)) O′
+          of (more some fits count short e) is-x = absurd (omega (arith, none, made-next .used, some, ap (λ (y : Done). y .used) is-x))
+          of {y} (last z short e) is-x =
+              let m = made-next in
+              made (allOf ended d k R) d₂ (r .ordinal) (u + r .used) (r .text) O′ O₀ (r .onward)
+              (told (x less) (e ∙ is-x) ∙ (λ i. done (sym (m .desk) i) (sym (m .ordinal) i) (u + sym (m .used) i) (sym (m .put .is) i) (sym (m .onward) i))) room
+
+      -- a request was answered, and the rest follows
+      pub goes : (r .used ≡ 0 → ⊥) → SoFar ended d k R d₂ (r .ordinal) (u + r .used) (r .text) O′
+      goes some-used = of (then-next less) refl
+        where
+          of : {y : Done} → Next ended d₁ k₁ (drop u R) y → y ≡ x less → SoFar ended d k R d₂ (r .ordinal) (u + r .used) (r .text) O′
+          of (last z short e) is-x = absurd (some-used (made-next .used ∙ sym (ap (λ (y : Done). y .used) is-x) ∙ z))
+          of {y} (more some fits count short e) is-x =
+              let m = made-next in
+              let used : r .used ≡ y .used = m .used ∙ sym (ap (λ (w : Done). w .used) is-x) in
+              let ordinal : r .ordinal ≡ y .ordinal = m .ordinal ∙ sym (ap (λ (w : Done). w .ordinal) is-x) in
+              let desk : d₂ ≡ y .desk = m .desk ∙ sym (ap (λ (w : Done). w .desk) is-x) in
+              let text : take (r .text) O′ ≡ take at O ++ y .text = m .put .is ∙ ap (λ (w : Done). take at O ++ w .text) (sym is-x) in
+              let size : length (y .text) ≡ length (x less .text) = ap (λ (w : Done). length (w .text)) is-x in
+              record {
+                in-piece = used-fits less (r .used) (next-made .used);
+                counted = omega (arith, so-far .counted, ordinal, count, used, some);
+                short = omega (arith, so-far .short, m .put .ends, size, short, used, some);
+                is =
+                    told _ e
+                    ∙ behind-twice u (y .used) (take at O) (y .text) (allOf ended (y .desk) (y .ordinal) (drop (y .used) (drop u R)))
+                    ∙ ap (λ (b : List ℕ). behind (u + y .used) (take at O ++ y .text) (allOf ended (y .desk) (y .ordinal) b)) (drop-drop (y .used) u R)
+                    ∙ (λ i. behind (u + sym used i) (sym text i) (allOf ended (sym desk i) (sym ordinal i) (drop (u + sym used i) R)));
+              }
+
+-- ---- a piece of `got` bytes was read behind the first `have` bytes of buf
 -- a piece without its used bytes, as a part of the buffer
 rest-of : (B : List ℕ) (end used : ℕ) → used ≤ end → end ≤ length B → drop used (take end B) ≡ take (end - used) (drop used B)
 rest-of B end used l₁ l₂ =
@@ -187,76 +224,62 @@ rest-of B end used l₁ l₂ =
     ap (λ (k : ℕ). drop used (take k B)) (sym e) ∙ ap (drop used) (take-add used (end - used) B)
     ∙ drop-at (take used B) (take (end - used) (drop used B)) used (length-take-le used B (omega arith))
 
--- a piece was read behind the first `have` bytes of buf, and then they are the first `end`
-module _ {d : Desk House Change} {k : ℕ} {kept : List ℕ} (g : Reading d k kept) (buf : List ℕ) (have end : ℕ) (more : have ≤ end) (room : end ≤ length buf) (same : take have buf ≡ kept)
-    {ends : Bool} {d′ : Desk House Change} (r : Progress) (O : List ℕ) (all : AllIs d k (take end buf) ends d′ r O)
-  where
-    abbrev pub new : List ℕ
-    new = take (end - have) (drop have buf)
+pub used-of-piece : (buf : List ℕ) (end : ℕ) → end ≤ length buf → (n : ℕ) → n ≡ length (writtenOut (seriesOf (take end buf) .requests)) → n ≤ end
+used-of-piece buf end room n is-n =
+    let l = used-inside (cuts (take end buf)) in
+    omega (arith, is-n, l, length-take-le end buf room)
 
-    split : take end buf ≡ kept ++ new
-    split =
-        let e : have + (end - have) ≡ end = omega arith in
-        ap (λ (j : ℕ). take j buf) (sym e) ∙ take-add have (end - have) buf ∙ ap (λ (l : List ℕ). l ++ new) same
+module _ (d : Desk House Change) (k : ℕ) (buf : List ℕ) (have got : ℕ) (room : have + got ≤ length buf) where
+  abbrev pub stands : Stand
+  stands = stand d k (take have buf)
 
-    -- all that the program has printed then, and what is still to come
-    told : (later : List ℕ) → (ends ≡ true → later ≡ [])
-        → printed ((g .read ++ new) ++ later) ≡ (g .text ++ take (r .text) O) ++ cond (r .stopped) [] (printedFrom 0 d′ (r .ordinal) (drop (r .used) (take end buf) ++ later))
-    told later last =
-        ap printed (append-assoc (g .read) new later)
-        ∙ g .prints (new ++ later)
-        ∙ ap (λ (l : List ℕ). g .text ++ printedFrom 0 d k l) (sym (append-assoc kept new later) ∙ ap (λ (l : List ℕ). l ++ later) (sym split))
-        ∙ ap (λ (l : List ℕ). g .text ++ l) (all .went .prints later last)
-        ∙ sym (append-assoc (g .text) (take (r .text) O) _)
+  abbrev pub piece : List ℕ
+  piece = take got (drop have buf)
 
-    -- after a C1 or C2 all is printed, whatever follows in the input
-    pub stopped-for-good : r .stopped ≡ true → (later : List ℕ) → (ends ≡ true → later ≡ []) → printed ((g .read ++ new) ++ later) ≡ g .text ++ take (r .text) O
-    stopped-for-good s later last =
-        told later last
-        ∙ ap (λ (b : Bool). (g .text ++ take (r .text) O) ++ cond b [] (printedFrom 0 d′ (r .ordinal) (drop (r .used) (take end buf) ++ later))) s
-        ∙ append-nil (g .text ++ take (r .text) O)
+  piece-length : length piece ≡ got
+  piece-length = length-take-le got (drop have buf) (simp length-drop (omega arith))
 
-    -- and so it is where the input has ended
-    pub ended : ends ≡ true → printed (g .read ++ new) ≡ g .text ++ take (r .text) O
-    unfolding printedFrom
-    ended e =
-        sym (ap printed (append-nil (g .read ++ new))) ∙ told [] (λ _. refl) ∙ by (r .stopped) refl
-      where
-        by : (b : Bool) → r .stopped ≡ b
-            → (g .text ++ take (r .text) O) ++ cond b [] (printedFrom 0 d′ (r .ordinal) (drop (r .used) (take end buf) ++ [])) ≡ g .text ++ take (r .text) O
-        by true s = append-nil (g .text ++ take (r .text) O)
-        by false s =
-            ap (λ (l : List ℕ). (g .text ++ take (r .text) O) ++ printedFrom 0 d′ (r .ordinal) (l ++ [])) (all .left s .none e)
-            ∙ append-nil (g .text ++ take (r .text) O)
+  whole-piece : take (have + got) buf ≡ take have buf ++ piece
+  whole-piece = take-add have got buf
 
-    pub used-fits : r .used ≤ end
-    used-fits = omega (arith, all .went .in-piece, length-take-le end buf room)
+  turn-is : turn stands piece ≡ turnedBy (take (have + got) buf) (allOf (eqb got 0) d k (take (have + got) buf))
+  turn-is =
+      ap (λ (n : ℕ). turnedBy (take have buf ++ piece) (allOf (eqb n 0) d k (take have buf ++ piece))) piece-length
+      ∙ ap (λ (b : List ℕ). turnedBy b (allOf (eqb got 0) d k b)) (sym whole-piece)
 
-    pub counted : r .ordinal ≤ k + end
-    counted = omega (arith, all .went .counted, used-fits)
+  -- the rest was moved to the front
+  pub turned : {out out′ : List ℕ} {d′ : Desk House Change} (r : Progress) → Made (allOf (eqb got 0) d k (take (have + got) buf)) out 0 d′ r out′
+      → (n : ℕ) (buf′ : List ℕ) → n ≡ have + got - r .used → take n buf′ ≡ take n (drop (r .used) buf)
+      → TurnIs (turn stands piece) d′ (record { ordinal = r .ordinal; have = n; text = r .text; onward = r .onward }) buf′ out′
+  turned {out} {out′} {d′} r m n buf′ is-n moved =
+      let b : List ℕ = take (have + got) buf in
+      let fits = used-of-piece buf (have + got) room (r .used) (m .used) in
+      let rest : drop (r .used) b ≡ take n buf′ =
+      rest-of buf (have + got) (r .used) fits room ∙ ap (λ (j : ℕ). take j (drop (r .used) buf)) (sym is-n) ∙ sym moved in
+      let same : drop (r .used) b ≡ drop (allOf (eqb got 0) d k b .used) b = ap (λ (j : ℕ). drop j b) (m .used) in
+      let size : length (drop (r .used) b) ≡ n = length-drop (r .used) b ∙ ap (λ (j : ℕ). j - r .used) (length-take-le (have + got) buf room) ∙ sym is-n in
+      subst (λ t. TurnIs t d′ (record { ordinal = r .ordinal; have = n; text = r .text; onward = r .onward }) buf′ out′) (sym turn-is)
+      (record {
+        desk = m .desk;
+        ordinal = m .ordinal;
+        have = sym size ∙ ap length same;
+        waiting = sym rest ∙ same;
+        text-length = m .put .ends ∙ zero-add (length (allOf (eqb got 0) d k b .text));
+        text = m .put .is;
+        onward = m .onward;
+      })
 
-    pub few-left : r .stopped ≡ false → (n : ℕ) → n ≡ end - r .used → n ≤ 8
-    few-left s n is-n =
-        omega (arith, cut-few (drop (r .used) (take end buf)) (all .left s .waits), length-drop (r .used) (take end buf), length-take-le end buf room)
+  -- ---- bounds of a turn
+  pub ordinal-near : turn stands piece .next .ordinal ≤ k + (have + got)
+  ordinal-near =
+      let b : List ℕ = take have buf ++ piece in
+      let l = few-answers (cuts b) (eqb (length piece) 0) d in
+      omega (arith, l, ap length whole-piece, length-take-le (have + got) buf room)
 
-    -- the rest was moved to the front
-    pub read-on : ends ≡ false → r .stopped ≡ false → (n : ℕ) (buf′ : List ℕ) → n ≡ end - r .used → take n buf′ ≡ take n (drop (r .used) buf) → Reading d′ (r .ordinal) (take n buf′)
-    read-on not-last s n buf′ is-n kept-bytes =
-        let rest : drop (r .used) (take end buf) ≡ take n buf′ =
-        rest-of buf end (r .used) used-fits room ∙ ap (λ (j : ℕ). take j (drop (r .used) buf)) (sym is-n) ∙ sym kept-bytes in
-        record {
-          read = g .read ++ new;
-          text = g .text ++ take (r .text) O;
-          prints = λ later.
-              told later (λ e. never (sym not-last ∙ e))
-              ∙ ap (λ (b : Bool). (g .text ++ take (r .text) O) ++ cond b [] (printedFrom 0 d′ (r .ordinal) (drop (r .used) (take end buf) ++ later))) s
-              ∙ ap (λ (l : List ℕ). (g .text ++ take (r .text) O) ++ printedFrom 0 d′ (r .ordinal) (l ++ later)) rest;
-        }
-
--- where the loop that reads stands between two turns
-pub record Between (d : Desk House Change) (ordinal have turns : ℕ) (buf out : List ℕ) : Type 0 where
-  pub few : have ≤ 8
-  pub buf-length : length buf ≡ 1024
-  pub out-length : length out ≡ 65536
-  pub small : ordinal + 1024 * turns ≤ 1 + 1024 * 1125899906842624
-  pub reading : Reading d ordinal (take have buf)
+  pub few-waiting : turn stands piece .onward ≡ true → length (turn stands piece .next .waiting) ≤ 8
+  few-waiting goes = few-wait (cuts (take have buf ++ piece)) (still (seriesOf (take have buf ++ piece) .end) (eqb (length piece) 0) goes)
+    where
+      still : (e : End) (ended : Bool) → readsOn ended e ≡ true → readsOn false e ≡ true
+      still no-bytes ended g = refl
+      still (unknown-kind kind) ended g = g
+      still (cut-body kind) ended g = refl

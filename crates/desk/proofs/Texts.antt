@@ -14,7 +14,7 @@ use borrow.Author.Tests.{ltb-true, ltb-false}
 use Rattle.io.specs.Digits.{digits, Fewest}
 use Rattle.history.specs.declared.Answer.{Answer}
 use Rattle.history.specs.declared.Answer.the-variants.{Granted, Numbered, Refused}
-use Rattle.desk.specs.Lines.{placesTo, decimal, numberOf, lineOf, Put}
+use Rattle.desk.specs.Lines.{placesTo, decimal, numberText, lineOf, Put}
 
 -- ---- decimal digits
 digits-count : (k n : ℕ) → length (digits 10 k n) ≡ k
@@ -60,7 +60,7 @@ pub decimal-short : (n : ℕ) → length (decimal n) ≤ 20
 unfolding decimal
 decimal-short n = let h = places-few 19 n in let e = digits-count (placesTo 19 n) n in omega (arith, h, e)
 
-pub number-short : (a : Answer) → length (numberOf a) ≤ 20
+pub number-short : (a : Answer) → length (numberText a) ≤ 20
 number-short Granted = omega arith
 number-short (Numbered n) = decimal-short n
 number-short (Refused n) = omega arith

@@ -1,5 +1,6 @@
--- What the desk program prints.
+-- What the desk program prints, and what it does with the pieces that it reads.
 pub mod Lines
-pub mod Printed
-pub mod Pieces
 pub mod Answers
+pub mod Printed
+pub mod Turns
+pub mod Steps

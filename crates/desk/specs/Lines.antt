@@ -4,9 +4,9 @@ use mathlib.Core.Path.{_≡_}
 use mathlib.Core.Bool.{cond}
 use mathlib.Core.List.{List, [], _∷_, _++_}
 use lib.Dec.{ltb}
-use lib.ListN.{length, take, getD}
+use lib.ListN.{length, take}
 use Rattle.io.specs.Digits.{digits}
-use Rattle.history.specs.Desk.{answerBytes}
+use Rattle.history.specs.Desk.{answerByte}
 use Rattle.history.specs.declared.Answer.{Answer}
 use Rattle.history.specs.declared.Answer.the-variants.{Granted, Numbered, Refused}
 
@@ -27,20 +27,18 @@ hexDigit d = cond (ltb d 10) (48 + d) (55 + d)
 abbrev pub hex : ℕ → List ℕ → List ℕ
 hex n more = hexDigit (n / 16) ∷ hexDigit (n % 16) ∷ more
 
-abbrev pub byteOf : Answer → ℕ
-byteOf a = getD (answerBytes a) 0 0
-
 -- the kind and the answer byte, each with a space before it, and the space after them
 abbrev pub middleOf : ℕ → ℕ → List ℕ
 middleOf kind byte = 32 ∷ hex kind (32 ∷ hex byte (32 ∷ []))
 
-abbrev pub numberOf : Answer → List ℕ
-numberOf Granted = 45 ∷ []
-numberOf (Numbered n) = decimal n
-numberOf (Refused n) = 45 ∷ []
+-- the draft number, or a dash
+abbrev pub numberText : Answer → List ℕ
+numberText Granted = 45 ∷ []
+numberText (Numbered n) = decimal n
+numberText (Refused n) = 45 ∷ []
 
 unfoldable pub lineOf : ℕ → ℕ → Answer → List ℕ
-lineOf ordinal kind answer = decimal ordinal ++ middleOf kind (byteOf answer) ++ numberOf answer ++ (10 ∷ [])
+lineOf ordinal kind answer = decimal ordinal ++ middleOf kind (answerByte answer) ++ numberText answer ++ (10 ∷ [])
 
 -- a text was put behind the first `at` bytes, and now ends at `next`
 pub record Put (before : List ℕ) (at : ℕ) (text : List ℕ) (next : ℕ) (after : List ℕ) : Type 0 where

@@ -4,29 +4,30 @@ ghost use Prim.Native.Nat.{_+_, _*_, _^_, _<_, _≤_};
 ghost use lib.ListN.{length};
 ghost use Rattle.request.specs.Kinds.{bodyLength};
 ghost use Rattle.history.specs.Desk.{shown};
-ghost use Rattle.desk.specs.Pieces.{soFar, NextIs, AllIs};
+ghost use Rattle.desk.specs.Turns.{allOf};
+ghost use Rattle.desk.specs.Steps.{soFar, oneOf, Made};
 use crate::lines::line;
 use history::Answer;
 use log::Log;
 use records::Cells;
 use request::Frame;
 
-// The ordinal of the next line, the request bytes used, where the lines collected end, and whether a C1 or C2 was the last.
+// The ordinal of the next line, the request bytes used, where the lines collected end, and whether more is to be read.
 pub(crate) struct Progress {
     pub ordinal: u64,
     pub used: usize,
     pub text: usize,
-    pub stopped: bool,
+    pub onward: bool,
 }
 
-fn so_far(ordinal: u64, used: usize, text: usize, stopped: bool) -> Progress
-    ensures { λ r. ⌜ r ≡ soFar ordinal used text stopped ⌝ }
+fn so_far(ordinal: u64, used: usize, text: usize, onward: bool) -> Progress
+    ensures { λ r. ⌜ r ≡ soFar ordinal used text onward ⌝ }
 {
     Progress {
         ordinal,
         used,
         text,
-        stopped,
+        onward,
     }
 }
 
@@ -44,14 +45,14 @@ fn answer_next(
     last: &mut u32,
     ordinal: u64,
     requests: &[u8],
-    ends: bool,
+    ended: bool,
     out: &mut [u8],
     at: usize,
 ) -> Progress
     requires { ⌜ 0 < length (now requests) ⌝ }
     requires { ⌜ ordinal + 1 < 2 ^ 64 ⌝ }
     requires { ⌜ at + 64 ≤ length (now out) ⌝ }
-    ensures { λ r. ⌜ NextIs (shown (now (base .entry)) (now (log .entry)) (now (current .entry)) (now (last .entry))) ordinal (now (requests .entry)) ends (now (out .entry)) at (shown (now (base .exit)) (now (log .exit)) (now (current .exit)) (now (last .exit))) r (now (out .exit)) ⌝ }
+    ensures { λ r. ⌜ Made (oneOf ended (shown (now (base .entry)) (now (log .entry)) (now (current .entry)) (now (last .entry))) ordinal (now (requests .entry))) (now (out .entry)) at (shown (now (base .exit)) (now (log .exit)) (now (current .exit)) (now (last .exit))) r (now (out .exit)) ⌝ }
 {
     let kind = requests[0];
     let frame = request::read(requests);
@@ -60,18 +61,18 @@ fn answer_next(
             let answer = history::take(base, log, current, last, request);
             let text = line(ordinal, kind, answer, out, at);
             let length = body_length(kind);
-            so_far(ordinal + 1, length + 1, text, false)
+            so_far(ordinal + 1, length + 1, text, true)
         }
         Frame::Unknown => {
             let text = line(ordinal, kind, Answer::Refused(1), out, at);
-            so_far(ordinal, 0, text, true)
+            so_far(ordinal + 1, 0, text, false)
         }
         Frame::Cut => {
-            if !ends {
-                return so_far(ordinal, 0, at, false);
+            if !ended {
+                return so_far(ordinal, 0, at, true);
             }
             let text = line(ordinal, kind, Answer::Refused(2), out, at);
-            so_far(ordinal, 0, text, true)
+            so_far(ordinal + 1, 0, text, false)
         }
     }
 }
@@ -84,35 +85,32 @@ pub(crate) fn answer_all(
     last: &mut u32,
     first: u64,
     requests: &[u8],
-    ends: bool,
+    ended: bool,
     out: &mut [u8],
 ) -> Progress
     requires { ⌜ (first + length (now requests) < 2 ^ 64) × (64 * length (now requests) ≤ length (now out)) ⌝ }
-    ensures { λ r. ⌜ AllIs (shown (now (base .entry)) (now (log .entry)) (now (current .entry)) (now (last .entry))) first (now (requests .entry)) ends (shown (now (base .exit)) (now (log .exit)) (now (current .exit)) (now (last .exit))) r (now (out .exit)) ⌝ }
+    ensures { λ r. ⌜ Made (allOf ended (shown (now (base .entry)) (now (log .entry)) (now (current .entry)) (now (last .entry))) first (now (requests .entry))) (now (out .entry)) 0 (shown (now (base .exit)) (now (log .exit)) (now (current .exit)) (now (last .exit))) r (now (out .exit)) ⌝ }
 {
     let mut ordinal = first;
     let mut used: usize = 0;
     let mut text: usize = 0;
-    let stopped = loop {
+    let onward = loop {
         if requests.len() <= used {
-            break false;
+            break !ended;
         }
         let rest = &requests[used..];
-        let next = answer_next(base, log, current, last, ordinal, rest, ends, out, text);
+        let next = answer_next(base, log, current, last, ordinal, rest, ended, out, text);
         ordinal = next.ordinal;
         used += next.used;
         text = next.text;
-        if next.stopped {
-            break true;
-        }
         if next.used == 0 {
-            break false;
+            break next.onward;
         }
     };
     Progress {
         ordinal,
         used,
         text,
-        stopped,
+        onward,
     }
 }

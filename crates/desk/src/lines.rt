@@ -2,7 +2,7 @@
 ghost use mathlib.Core.Path.{_≡_};
 ghost use Prim.Native.Nat.{_+_, _<_, _≤_};
 ghost use lib.ListN.{length};
-ghost use Rattle.desk.specs.Lines.{hexDigit, byteOf, middleOf, decimal, numberOf, lineOf, Put};
+ghost use Rattle.desk.specs.Lines.{hexDigit, middleOf, decimal, numberText, lineOf, Put};
 use history::Answer;
 
 fn wide(byte: u8) -> u32
@@ -12,26 +12,15 @@ fn wide(byte: u8) -> u32
 }
 
 fn hex_digit(n: u32) -> u8
-    requires { ⌜ n < 32 ⌝ }
+    requires { ⌜ n < 16 ⌝ }
     ensures { λ r. ⌜ r ≡ hexDigit n ⌝ }
 {
     if n < 10 { 48 + n as u8 } else { 55 + n as u8 }
 }
 
-// Wider than a byte: then no bound on the numbers of refusals is asked for.
-fn answer_byte(answer: Answer) -> u32
-    ensures { λ r. ⌜ (r ≡ byteOf answer) × (r < 512) ⌝ }
-{
-    match answer {
-        Answer::Granted => 0x80,
-        Answer::Numbered(_) => 0x81,
-        Answer::Refused(n) => (0xC0 + wide(n)) % 256,
-    }
-}
-
 // As in ` 13 C8 `: two bytes in hex, with the spaces around them.
 fn middle(kind: u32, byte: u32) -> [u8; 7]
-    requires { ⌜ (kind < 512) × (byte < 512) ⌝ }
+    requires { ⌜ (kind < 256) × (byte < 256) ⌝ }
     ensures { λ r. ⌜ r ≡ middleOf kind byte ⌝ }
 {
     let a = hex_digit(kind / 16);
@@ -60,7 +49,7 @@ fn put_decimal(n: u64, out: &mut [u8], at: usize) -> usize
 
 fn put_number(answer: Answer, out: &mut [u8], at: usize) -> usize
     requires { ⌜ at + 20 ≤ length (now out) ⌝ }
-    ensures { λ r. ⌜ Put (now (out .entry)) at (numberOf answer) r (now (out .exit)) ⌝ }
+    ensures { λ r. ⌜ Put (now (out .entry)) at (numberText answer) r (now (out .exit)) ⌝ }
 {
     match answer {
         Answer::Granted => append(out, at, b"-"),
@@ -74,7 +63,8 @@ pub(crate) fn line(ordinal: u64, kind: u8, answer: Answer, out: &mut [u8], at: u
     ensures { λ r. ⌜ Put (now (out .entry)) at (lineOf ordinal kind answer) r (now (out .exit)) ⌝ }
 {
     let a = put_decimal(ordinal, out, at);
-    let mid = middle(wide(kind), answer_byte(answer));
+    let byte = history::answer_byte(answer);
+    let mid = middle(wide(kind), wide(byte));
     let b = append(out, a, &mid);
     let c = put_number(answer, out, b);
     append(out, c, b"\n")

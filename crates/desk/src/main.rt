@@ -1,53 +1,22 @@
 // The program: reads requests from standard input to its end, and prints a line for each answer.
 mod answers;
 mod lines;
+mod pieces;
 
 ghost use mathlib.Core.Path.{_≡_};
-ghost use Prim.Native.Nat.{_-_, _≤_};
-ghost use lib.ListN.{length, take, drop};
+ghost use lib.ListN.{length};
 ghost use Rattle.history.specs.Machine.{opened};
 ghost use Rattle.history.specs.Desk.{shown, deskRules};
-ghost use Rattle.desk.specs.Pieces.{ReadIs};
 use libc::STDIN_FILENO;
 use libc::STDOUT_FILENO;
 use log::Log;
 use records::Cells;
 
-// Where the bytes that are there end after a read, and whether the read failed.
-struct Piece {
-    end: usize,
-    failed: bool,
-}
-
-// One read, into the room behind the bytes that wait. Where it adds none and did not fail, the input has ended.
-fn read_more(buf: &mut [u8], have: usize) -> Piece
-    requires { ⌜ have ≤ length (now buf) ⌝ }
-    ensures { λ r. ⌜ ReadIs (now (buf .entry)) have r (now (buf .exit)) ⌝ }
-{
-    let got = libc::read(STDIN_FILENO, &mut buf[have..]);
-    let more = io::count(got, &buf[have..]);
-    Piece {
-        end: have + more,
-        failed: got < 0,
-    }
-}
-
-// What stands from `from` up to `to` becomes the front of buf.
-fn keep(buf: &mut [u8], from: usize, to: usize) -> usize
-    requires { ⌜ (from ≤ to) × (to ≤ length (now buf)) ⌝ }
-    ensures { λ r. ⌜ (r ≡ to - from) × (take r (now (buf .exit)) ≡ take r (drop from (now (buf .entry)))) ⌝ }
-{
-    let n = to - from;
-    let mut i = 0;
-    while i < n {
-        buf[i] = buf[from + i];
-        i += 1;
-    }
-    n
-}
-
-// Piece by piece: a read, the answers, one write for their lines. Every proved loop ends, so this one has a number of turns,
-// 2 ^ 50, which is more pieces than an input has; it also keeps each ordinal within 64 bits.
+// The loop only reads, has each piece answered and writes its text: what is printed, what waits and whether to go on is decided in `answer_piece`.
+// No contract can say what is read and written, so the lines that do it are trusted, and tested by runs.
+//
+// Every proved loop ends, so this one has a number of turns, 2 ^ 50, which also keeps each ordinal within 64 bits. After that many reads (35 years, at
+// a microsecond each) the program ends as it stands: the lines of all whole requests read are written, what waits is not answered, and no C2 is printed.
 fn run(
     base: &mut Cells,
     log: &mut Log,
@@ -63,37 +32,33 @@ fn run(
     let mut have: usize = 0;
     let mut turns: u64 = 1125899906842624;
     while turns > 0 {
-        let piece = read_more(buf, have);
-        if piece.failed {
+        let read = libc::read(STDIN_FILENO, &mut buf[have..]);
+        if read < 0 {
             os::fail(b"desk: standard input");
             return;
         }
-        let end = piece.end;
-        let ends = end == have;
-        let done = answers::answer_all(base, log, current, last, ordinal, &buf[..end], ends, out);
-        let text = done.text;
+        let got = io::count(read, &buf[have..]);
+        let turn = pieces::answer_piece(base, log, current, last, ordinal, buf, have, got, out);
+        let text = turn.text;
         if !io::write_all(STDOUT_FILENO, &out[..text]) {
             os::fail(b"desk: standard output");
             return;
         }
-        if ends {
+        if !turn.onward {
             return;
         }
-        if done.stopped {
-            return;
-        }
-        have = keep(buf, done.used, end);
-        ordinal = done.ordinal;
+        ordinal = turn.ordinal;
+        have = turn.have;
         turns -= 1;
     }
 }
 
 fn main() {
-    let desk = history::open();
+    let desk = history::open(0);
     let mut base = desk.base;
     let mut log = desk.log;
     let mut current = desk.current;
-    let mut last: u32 = 0;
+    let mut last = desk.last;
     let mut buf = [0u8; 1024];
     let mut out = io::large_buffer();
     run(

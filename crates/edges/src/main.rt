@@ -142,14 +142,14 @@ fn open_anew(word: &[u8], base: &mut Cells, log: &mut Log, current: &mut Cells, 
     if starts(word, b'+') {
         return;
     }
-    let desk = history::open();
+    let desk = history::open((decimal(word) % 4_294_967_296) as u32);
     let empty = desk.base;
     let none = desk.log;
     let same = desk.current;
     *base = empty;
     *log = none;
     *current = same;
-    *last = (decimal(word) % 4_294_967_296) as u32;
+    *last = desk.last;
 }
 
 // Runs the batch, and writes what it left.
@@ -229,7 +229,7 @@ fn cases(input: &[u8]) {
 // The stop of a batch over these bytes, 0 to 13.
 fn stop_of(requests: &[u8]) -> u8 {
     let mut answers = [0u8; 5];
-    let ran = batch::run_desk(history::open(), 0, requests, &mut answers, 0);
+    let ran = batch::run_desk(history::open(0), requests, &mut answers, 0);
     let report = ran.ran;
     let stop = report.stop;
     batch::stop_number(stop)

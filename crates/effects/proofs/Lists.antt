@@ -10,7 +10,7 @@ use lib.ListN.{length, take, drop, getD, set, length-set, drop-of-length-le}
 use lib.Dec.{eqb}
 use borrow.Author.Tests.{eqb-true, eqb-false, ne-eqb}
 use lib.Seq.{getD-set-same, getD-set-other, take-suc, drop-cons, set-at, getD-at, length-take-le, take-all, take-suc-set, drop-set-lt, getD-drop, drop-drop}
-use Rattle.records.specs.Lists.{any, keep, mapFrom}
+use Rattle.records.specs.Lists.{any, filter, mapFrom}
 
 -- ---- a map in place: the first i elements are done
 module _ {A : Type 0} (f : ℕ → A → A) where
@@ -60,15 +60,15 @@ mapFrom-map g n (x ∷ xs) = rw (mapFrom-map g (suc n) xs)
 pub record MovedUp {A : Type 0} (p : A → Bool) (l : List A) (i n : ℕ) (a : List A) : Type 0 where
   pub behind : n ≤ i
   pub size : length a ≡ length l
-  pub front : take n a ≡ keep p (take i l)
+  pub front : take n a ≡ filter p (take i l)
   pub rest : drop i a ≡ drop i l
 
 module _ {A : Type 0} (p : A → Bool) where
-  keep-append : (xs ys : List A) → keep p (xs ++ ys) ≡ keep p xs ++ keep p ys
+  keep-append : (xs ys : List A) → filter p (xs ++ ys) ≡ filter p xs ++ filter p ys
   keep-append [] ys = refl
   keep-append (x ∷ xs) ys = rw (keep-append xs ys, either (p x))
     where
-      either : (b : Bool) → cond b (x ∷ (keep p xs ++ keep p ys)) (keep p xs ++ keep p ys) ≡ cond b (x ∷ keep p xs) (keep p xs) ++ keep p ys
+      either : (b : Bool) → cond b (x ∷ (filter p xs ++ filter p ys)) (filter p xs ++ filter p ys) ≡ cond b (x ∷ filter p xs) (filter p xs) ++ filter p ys
       either true = refl
       either false = refl
 
@@ -82,7 +82,7 @@ module _ {A : Type 0} (p : A → Bool) where
       moved-next = ap (λ (k : ℕ). getD a k d) (sym (add-zero i)) ∙ sym (getD-drop i a 0 d) ∙ rw (m .rest, getD-drop i l 0 d, add-zero)
 
       module _ (h : i < length l) where
-        passed : keep p (take (suc i) l) ≡ take n a ++ keep p (getD a i d ∷ [])
+        passed : filter p (take (suc i) l) ≡ take n a ++ filter p (getD a i d ∷ [])
         passed = rw (take-suc l i d h, keep-append (take i l) (getD l i d ∷ []), m .front, moved-next)
 
         later : drop (suc i) a ≡ drop (suc i) l
@@ -104,7 +104,7 @@ module _ {A : Type 0} (p : A → Bool) where
           rest = rw (add-one i, later);
         }
 
-    pub moved-all : (i n : ℕ) (a : List A) → MovedUp p l i n a → length l ≤ i → take n a ≡ keep p l
+    pub moved-all : (i n : ℕ) (a : List A) → MovedUp p l i n a → length l ≤ i → take n a ≡ filter p l
     moved-all i n a m h = m .front ∙ rw (take-all i l h)
 
 -- ---- marks at the keys of the elements passed: of i elements of l each has marked the place of its key, below n

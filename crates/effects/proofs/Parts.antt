@@ -5,7 +5,7 @@ use mathlib.Core.Bool.{Bool, true, false}
 use mathlib.Core.List.{List, map}
 use lib.ListN.{length, take, getD, set}
 use lib.Seq.{set-getD}
-use Rattle.records.specs.Lists.{keep, mapFrom}
+use Rattle.records.specs.Lists.{filter, mapFrom}
 use Rattle.records.specs.House.{House, withUsers, withScripts, withSessions, withDrafts}
 use Rattle.records.specs.declared.User.{User}
 use Rattle.records.specs.declared.Script.{Script}
@@ -88,7 +88,7 @@ module _ {A : Type 0} (q : Part A) (h₀ : House) where
     pub sift-cut : (i n : ℕ) (h : House) (d : A) → Sifted i n h → i < length (q .get h₀) → p (getD (q .get h) i d) ≡ false → Sifted (i + 1) n h
     sift-cut i n h d m l t = record { only = m .only; moved = moved-cut p (q .get h₀) i n (q .get h) d (m .moved) l t }
 
-    pub sift-finish : (i n : ℕ) (h k : House) → Sifted i n h → length (q .get h₀) ≤ i → k ≡ q .put h (take n (q .get h)) → k ≡ q .put h₀ (keep p (q .get h₀))
+    pub sift-finish : (i n : ℕ) (h k : House) → Sifted i n h → length (q .get h₀) ≤ i → k ≡ q .put h (take n (q .get h)) → k ≡ q .put h₀ (filter p (q .get h₀))
     sift-finish i n h k m l s =
         s ∙ ap (λ (x : House). q .put x (take n (q .get h))) (m .only) ∙ q .twice h₀ (q .get h) (take n (q .get h))
         ∙ ap (q .put h₀) (moved-all p (q .get h₀) i n (q .get h) (m .moved) l)

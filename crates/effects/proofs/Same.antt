@@ -5,6 +5,7 @@ use Prim.Native.Nat.{ℕ}
 use lib.Dec.{eqb}
 use native.Mathlib.Omega.{arith}
 use borrow.Author.Tests.{eqb-true}
+use Rattle.request.proofs.Absurd.{differ}
 use Rattle.records.specs.Places.{without}
 use Rattle.records.specs.declared.User.{User}
 use Rattle.records.specs.declared.Draft.{Draft}
@@ -12,7 +13,7 @@ use Rattle.effects.specs.Elements.{parted, unplaced}
 
 both : (a b : Bool) → (a && b) ≡ true → (a ≡ true) × (b ≡ true)
 both true b e = (refl, e)
-both false b e = let z : _≡_ {A = ℕ} 0 1 = cc in absurd (omega arith)
+both false b e = differ cc
 
 parted-same : (room : ℕ) (u : User) → without (u .rooms) room ≡ u .rooms → without (u .leads) room ≡ u .leads → parted room u ≡ u
 parted-same room u r l = λ i. record {

@@ -2,7 +2,7 @@
 use Prim.Native.Nat.{ℕ}
 use mathlib.Core.Bool.{cond, _&&_, not}
 use mathlib.Core.List.{List, map}
-use Rattle.records.specs.Lists.{any, keep, mapFrom}
+use Rattle.records.specs.Lists.{any, filter, mapFrom}
 use Rattle.records.specs.Places.{with, without, only}
 use Rattle.records.specs.House.{House, house, noScript, noSession, user, session, draftAt, withScripts, withSessions, withDrafts, putUser, putRooms, putScript, putSession, putDraft, addDraft}
 use Rattle.records.specs.Lookups.{findDraft, atFound, ofScript, placed}
@@ -15,7 +15,7 @@ use Rattle.effects.specs.declared.Change.{Change}
 
 -- ---- "So a draft that loses its last place is deleted, and a script that loses its last draft is deleted."
 abbrev pub sweptDrafts : List Draft → List Draft
-sweptDrafts drafts = keep placed drafts
+sweptDrafts drafts = filter placed drafts
 
 -- script i, where no draft of it is left
 abbrev pub deserted : List Draft → ℕ → Script → Script

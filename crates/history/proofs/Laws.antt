@@ -6,13 +6,14 @@ use Prim.Native.Nat.{ℕ, _+_, _<_}
 use native.Mathlib.Omega.{arith}
 use lib.Dec.{eqb, ltb}
 use lib.ListN.{length, getD, take, drop}
+use Rattle.request.proofs.Absurd.{differ}
 use Rattle.records.specs.House.{House}
 use Rattle.effects.specs.Effects.{applied}
 use Rattle.effects.specs.declared.Change.{Change}
 use Rattle.log.specs.Log.{pushed}
 use Rattle.counter.specs.Numbers.{top, nextAfter, lastAfter}
 use Rattle.counter.specs.declared.Next.the-variants.{Number, Spent}
-use Rattle.history.specs.Machine.{Desk, keep}
+use Rattle.history.specs.Machine.{Desk, keepChange}
 use Rattle.history.specs.Desk.{deskRules, settled}
 
 pub first-one : (h : House) (l : List Change) (d : Change) → 0 < length l → applied h (getD l 0 d) ≡ foldl applied h (take 1 l)
@@ -23,14 +24,14 @@ pub number-is-last : (last n : ℕ) → nextAfter last ≡ Number n → lastAfte
 number-is-last last n e = by-top (eqb last top) e
   where
     by-top : (t : Bool) → cond t Spent (Number (last + 1)) ≡ Number n → cond t last (last + 1) ≡ n
-    by-top true e = let z : _≡_ {A = ℕ} 0 1 = cc in absurd (omega arith)
+    by-top true e = differ cc
     by-top false e = cc
 
 -- the parts after a change that is kept, put together
 module _ (b b' : House) (l l' : List Change) (h h' : House) (c : Change) (n m : ℕ) where
   pub kept-is : b' ≡ settled b l → l' ≡ pushed l c → h' ≡ applied h c
-      → record { base = b'; log = l'; current = h'; last = n } ≡ keep deskRules (record { base = b; log = l; current = h; last = m }) c n
-  unfolding keep
+      → record { base = b'; log = l'; current = h'; last = n } ≡ keepChange deskRules (record { base = b; log = l; current = h; last = m }) c n
+  unfolding keepChange
   kept-is e f g = by-room (ltb (length l) 32) e f
     where
       by-room : (t : Bool) → b' ≡ cond t b (foldl applied b (take 1 l)) → l' ≡ cond t (l ++ (c ∷ [])) (drop 1 l ++ (c ∷ [])) → _≡_ {A = Desk House Change}

@@ -39,7 +39,16 @@ abbrev pub settled : House → List Change → House
 settled h l = cond (ltb (length l) 32) h (foldl applied h (take 1 l))
 
 -- "80 granted; 81 and four bytes, granted with a draft number (09, 14, 15); C0 plus n, refused with n"; the sum is a byte
+abbrev pub answerByte : Answer → ℕ
+answerByte Answer.Granted = 0x80
+answerByte (Answer.Numbered n) = 0x81
+answerByte (Answer.Refused n) = (0xC0 + n) % 256
+
+-- behind 81, the number's four bytes
+abbrev pub numberBytes : Answer → List ℕ
+numberBytes Answer.Granted = []
+numberBytes (Answer.Numbered n) = quadBytes n []
+numberBytes (Answer.Refused n) = []
+
 abbrev pub answerBytes : Answer → List ℕ
-answerBytes Answer.Granted = 0x80 ∷ []
-answerBytes (Answer.Numbered n) = 0x81 ∷ quadBytes n []
-answerBytes (Answer.Refused n) = ((0xC0 + n) % 256) ∷ []
+answerBytes a = answerByte a ∷ numberBytes a

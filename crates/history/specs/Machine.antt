@@ -44,32 +44,32 @@ module _ {S C Q : Type 0} (R : Rulebook S C Q) where
   opened n = record { base = R .none; log = []; current = R .none; last = n }
 
   -- the records after some changes, in order
-  abbrev pub after : S → List C → S
-  after s l = foldl (R .apply) s l
+  abbrev pub changed : S → List C → S
+  changed s l = foldl (R .apply) s l
 
   -- a change is made and kept; of 32 kept ones the oldest goes into the base for good
-  unfoldable pub keep : Desk S C → C → ℕ → Desk S C
-  keep d c n =
+  unfoldable pub keepChange : Desk S C → C → ℕ → Desk S C
+  keepChange d c n =
       cond (ltb (length (d .log)) 32)
       (record { base = d .base; log = d .log ++ (c ∷ []); current = R .apply (d .current) c; last = n })
-      (record { base = after (d .base) (take 1 (d .log)); log = drop 1 (d .log) ++ (c ∷ []); current = R .apply (d .current) c; last = n })
+      (record { base = changed (d .base) (take 1 (d .log)); log = drop 1 (d .log) ++ (c ∷ []); current = R .apply (d .current) c; last = n })
 
   -- "newest kept change undone in the records; the counter stays"; 12: "the kept count is 0"
   unfoldable pub takeBack : Desk S C → Outcome S C
   takeBack d =
       cond (eqb (length (d .log)) 0) (outcome d (Refused 12))
-      (outcome (record { base = d .base; log = take (length (d .log) - 1) (d .log); current = after (d .base) (take (length (d .log) - 1) (d .log)); last = d .last }) Granted)
+      (outcome (record { base = d .base; log = take (length (d .log) - 1) (d .log); current = changed (d .base) (take (length (d .log) - 1) (d .log)); last = d .last }) Granted)
 
   -- 11: "the last number issued is 4,294,967,295"
   abbrev pub issued : Desk S C → (ℕ → C) → Next → Outcome S C
-  issued d f (Number n) = outcome (keep d (f n) n) (Numbered n)
+  issued d f (Number n) = outcome (keepChange d (f n) n) (Numbered n)
   issued d f Spent = outcome d (Refused 11)
 
   -- "A refusal leaves records, counter and kept changes as they were."
   abbrev pub ruled : Desk S C → Verdict C → Outcome S C
   ruled d (refuse n) = outcome d (Refused n)
   ruled d pass = outcome d Granted
-  ruled d (make c) = outcome (keep d c (d .last)) Granted
+  ruled d (make c) = outcome (keepChange d c (d .last)) Granted
   ruled d (issue f) = issued d f (nextAfter (d .last))
   ruled d undo = takeBack d
 

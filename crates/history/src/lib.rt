@@ -3,8 +3,8 @@ ghost use mathlib.Core.Path.{_≡_};
 ghost use Prim.Native.Nat.{ℕ};
 ghost use Rattle.records.specs.House.{view};
 ghost use Rattle.log.specs.Log.{past};
-ghost use Rattle.history.specs.Machine.{opened, outcome, keep, takeBack, issued, step};
-ghost use Rattle.history.specs.Desk.{shown, deskRules, changeOf, settled};
+ghost use Rattle.history.specs.Machine.{opened, outcome, keepChange, takeBack, issued, step};
+ghost use Rattle.history.specs.Desk.{shown, deskRules, changeOf, settled, answerByte};
 ghost use Rattle.counter.specs.Numbers.{nextAfter};
 use counter::Next;
 use effects::Change;
@@ -13,11 +13,12 @@ use log::Log;
 use records::Cells;
 use request::Request;
 
-// The records before the kept changes, the kept changes, and the records after them. The last draft number is held beside the desk.
+// The records before the kept changes, the kept changes, the records after them, and the last draft number issued.
 pub struct Desk {
     pub base: [u32; 1858],
     pub log: [u8; 418],
     pub current: [u32; 1858],
+    pub last: u32,
 }
 
 pub enum Answer {
@@ -26,13 +27,26 @@ pub enum Answer {
     Refused(u8),
 }
 
-pub fn open() -> Desk
-    ensures { λ r. ⌜ ((last : ℕ) → shown (r .base) (r .log) (r .current) last ≡ opened deskRules last) ⌝ }
+// The first byte of an answer: all of it but a number's four.
+pub fn answer_byte(answer: Answer) -> u8
+    ensures { λ r. ⌜ r ≡ answerByte answer ⌝ }
+{
+    match answer {
+        Answer::Granted => 0x80,
+        Answer::Numbered(_) => 0x81,
+        Answer::Refused(n) => ((0xC0 + n as u16) % 256) as u8,
+    }
+}
+
+// Takes the last draft number already used.
+pub fn open(last: u32) -> Desk
+    ensures { λ r. ⌜ shown (r .base) (r .log) (r .current) (r .last) ≡ opened deskRules last ⌝ }
 {
     Desk {
         base: [0u32; 1858],
         log: [0u8; 418],
         current: [0u32; 1858],
+        last,
     }
 }
 
@@ -48,7 +62,7 @@ fn settle(base: &mut Cells, log: &Log)
 }
 
 fn make(base: &mut Cells, log: &mut Log, current: &mut Cells, change: Change)
-    ensures { λ _. ⌜ ((n m : ℕ) → shown (now (base .exit)) (now (log .exit)) (now (current .exit)) n ≡ keep deskRules (shown (now (base .entry)) (now (log .entry)) (now (current .entry)) m) change n) ⌝ }
+    ensures { λ _. ⌜ ((n m : ℕ) → shown (now (base .exit)) (now (log .exit)) (now (current .exit)) n ≡ keepChange deskRules (shown (now (base .entry)) (now (log .entry)) (now (current .entry)) m) change n) ⌝ }
 {
     effects::apply(current, change);
     settle(base, log);

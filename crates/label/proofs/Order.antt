@@ -4,17 +4,14 @@ use mathlib.Core.Bool.{Bool, true, false, cond, _&&_}
 use Prim.Native.Nat.{ℕ, _≤_, max}
 use native.Mathlib.Omega.{arith}
 use native.Mathlib.Nat.{le-refl}
-use lib.Dec.{T, eqb, leb, eqb→eq, leb→le}
+use lib.Dec.{eqb, leb, eqb→eq, leb→le}
 use lib.Bits.{bitOr}
 use lib.Ieee.Fits.{and-l, and-r}
 use borrow.Author.Tests.{eq-eqb, eqb-true, eqb-false, le-leb}
-use Rattle.label.specs.Labels.{contains, dominates, join}
+use Rattle.label.specs.Labels.{contains, dominates, Dominates, join}
 use Rattle.label.specs.declared.Label.{Label}
 use Rattle.label.specs.declared.Label.the-variants.{High, Low, At}
 use Rattle.label.proofs.Sets.{Contains, contains-refl, contains-antisym, contains-trans, union-left, union-right, union-least}
-
-abbrev pub Dominates : Label → Label → Type 0
-Dominates a b = T (dominates a b)
 
 -- what it takes for a label at a place to dominate a label at a place
 pub record Covers (p l c q m d : ℕ) : Type 0 where

@@ -1,7 +1,7 @@
 -- Labels: dominance, the join, good labels, and labels as 32-bit numbers. Each definition stands under the sentence that it says.
 use mathlib.Core.Bool.{Bool, true, false, cond, _&&_, _||_}
 use Prim.Native.Nat.{ℕ, _+_, _*_, _/_, _%_, _^_, max}
-use lib.Dec.{eqb, leb, ltb}
+use lib.Dec.{T, eqb, leb, ltb}
 use lib.Bits.{bitAnd, bitOr}
 use Rattle.label.specs.declared.Label.{Label}
 use Rattle.label.specs.declared.Label.the-variants.{High, Low, At}
@@ -35,6 +35,10 @@ covers (At p l c) (At q m d) = eqb p q && leb m l && contains c d
 -- "A dominates B when A is SysHigh, or B is SysLow, or the places are equal, A's level is at least B's and A's categories contain B's."
 abbrev pub dominates : Label → Label → Bool
 dominates a b = isHigh a || isLow b || covers a b
+
+-- as a statement, for the laws of the order
+abbrev pub Dominates : Label → Label → Type 0
+Dominates a b = T (dominates a b)
 
 -- "The join: same place gives the larger level and the union; different places give SysHigh; SysHigh absorbs; SysLow gives the other."
 abbrev pub join : Label → Label → Label

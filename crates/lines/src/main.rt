@@ -13,7 +13,7 @@ use records::User;
 use request::Frame;
 
 // ---- the houses; a set of places has place p as bit p
-fn user(sort: u32, level: u32, categories: u32, rooms: u32, leads: u32, admin: bool) -> User {
+fn user(sort: u8, level: u8, categories: u16, rooms: u32, leads: u32, admin: bool) -> User {
     User {
         here: true,
         sort,
@@ -25,7 +25,7 @@ fn user(sort: u32, level: u32, categories: u32, rooms: u32, leads: u32, admin: b
     }
 }
 
-fn script(level: u32, categories: u32, origin: u32) -> Script {
+fn script(level: u8, categories: u16, origin: u8) -> Script {
     Script {
         here: true,
         level,
@@ -34,7 +34,7 @@ fn script(level: u32, categories: u32, origin: u32) -> Script {
     }
 }
 
-fn writer(owner: u32, level: u32, categories: u32, place: u32) -> Session {
+fn writer(owner: u8, level: u8, categories: u16, place: u8) -> Session {
     Session {
         here: true,
         owner,
@@ -45,7 +45,7 @@ fn writer(owner: u32, level: u32, categories: u32, place: u32) -> Session {
     }
 }
 
-fn reader(owner: u32, level: u32, categories: u32) -> Session {
+fn reader(owner: u8, level: u8, categories: u16) -> Session {
     Session {
         here: true,
         owner,
@@ -56,7 +56,7 @@ fn reader(owner: u32, level: u32, categories: u32) -> Session {
     }
 }
 
-fn draft(number: u32, script: u32, places: u32) -> Draft {
+fn draft(number: u32, script: u8, places: u32) -> Draft {
     Draft {
         number,
         script,

@@ -38,7 +38,6 @@ change-laid = record {
     request = requestOf (h 0 (omega arith) i) (h 0 (omega arith) i ∷ h 1 (omega arith) i ∷ h 2 (omega arith) i ∷ h 3 (omega arith) i ∷ h 4 (omega arith) i ∷ h 5 (omega arith) i ∷ h 6 (omega arith) i ∷ h 7 (omega arith) i ∷ h 8 (omega arith) i ∷ []);
     number = quad (h 9 (omega arith) i) (h 10 (omega arith) i) (h 11 (omega arith) i) (h 12 (omega arith) i);
   };
-  back = λ c. said (c .request) (c .number);
   wide = λ c. refl;
 }
 
@@ -88,7 +87,7 @@ module _ (s : List ℕ) (z : length s ≡ 418) (c : Change) (slot : ℕ) (low : 
       place i k (yes y) =
           let j : i ≡ n = omega arith in
           let here : (s # 0 + i) % 32 ≡ slot = omega arith in
-          rw (here, put-here changeTable change-laid s slot c low (omega arith), getD-at (past s) c [] c i (omega arith))
+          rw (here, put-here changeTable change-laid s slot c low (said (c .request) (c .number)) (omega arith), getD-at (past s) c [] c i (omega arith))
       place i k (no y) =
           put-other changeTable change-laid s slot c low ((s # 0 + i) % 32) (λ x. omega arith)
           ∙ sym (past-at s i c (omega arith)) ∙ sym (List·getD-append (past s) (c ∷ []) c i (omega arith))
@@ -110,7 +109,7 @@ module _ (s : List ℕ) (z : length s ≡ 418) (c : Change) (slot : ℕ) (low : 
       place i k (yes y) =
           let here : ((slot + 1) % 32 + i) % 32 ≡ slot = omega arith in
           let d : length (drop 1 (past s)) ≡ i = length-drop 1 (past s) ∙ omega arith in
-          rw (here, put-here changeTable change-laid s slot c low (omega arith), getD-at (drop 1 (past s)) c [] c i d)
+          rw (here, put-here changeTable change-laid s slot c low (said (c .request) (c .number)) (omega arith), getD-at (drop 1 (past s)) c [] c i d)
       place i k (no y) =
           let step : ((slot + 1) % 32 + i) % 32 ≡ (s # 0 + (1 + i)) % 32 = omega arith in
           let d : i < length (drop 1 (past s)) = omega (arith, length-drop 1 (past s)) in

@@ -32,9 +32,6 @@ changeTable = record {
 unfoldable pub past : List ℕ → List Change
 past s = tabulate (min (s # 1) 32) (λ i. at changeTable s ((s # 0 + i) % 32))
 
-abbrev pub emptyLog : List Change
-emptyLog = []
-
 -- one more; of 32 the oldest is given up
 abbrev pub pushed : List Change → Change → List Change
 pushed l c = cond (ltb (length l) 32) (l ++ (c ∷ [])) (drop 1 l ++ (c ∷ []))

@@ -6,7 +6,7 @@ ghost use lib.ListN.{length, getD};
 ghost use Rattle.records.specs.House.{view};
 ghost use Rattle.records.specs.Tables.{at, putAt};
 ghost use Rattle.effects.specs.Effects.{applied};
-ghost use Rattle.log.specs.Log.{changeTable, past, noChange, emptyLog, pushed, popped};
+ghost use Rattle.log.specs.Log.{changeTable, past, noChange, pushed, popped};
 use effects::Change;
 use records::Cells;
 use request::Request;
@@ -132,12 +132,6 @@ pub fn pop(log: &mut Log)
         return;
     }
     log[1] = (n - 1) as u8;
-}
-
-pub fn clear(log: &mut Log)
-    ensures { λ _. ⌜ past (now (log .exit)) ≡ emptyLog ⌝ }
-{
-    *log = [0u8; 418];
 }
 
 // The records after all kept changes, from those before them.

@@ -11,8 +11,9 @@ use Rattle.counter.specs.Numbers.{nextAfter}
 use Rattle.counter.specs.declared.Next.{Next}
 use Rattle.counter.specs.declared.Next.the-variants.{Number, Spent}
 use Rattle.history.specs.declared.Answer.the-variants.{Granted, Refused}
-use Rattle.history.specs.Machine.{Verdict, refuse, pass, make, issue, undo, Rulebook, Desk, Outcome, outcome, opened, after, keep, takeBack, issued, ruled, step}
-use Rattle.promises.specs.Book.{Book, Entry, entry, blank, recordsOf, enter, strike, numbered, noted, note}
+use Rattle.history.specs.Machine.{Verdict, refuse, pass, make, issue, undo, Rulebook, Desk, Outcome, outcome, opened, changed, keepChange, takeBack, issued, ruled, step}
+use Rattle.promises.specs.Book.{Book, Entry, entry, blank, recordsOf, enter, struck, strike, enterNumbered, noted, note}
+use Rattle.promises.proofs.Past.{keep-ways}
 
 -- the newest goes from what is behind, where there is something behind
 newest-goes : {A : Type 0} (xs ys : List A) → 0 < length ys → take (length (xs ++ ys) - 1) (xs ++ ys) ≡ xs ++ take (length ys - 1) ys
@@ -29,7 +30,7 @@ module _ {S C Q : Type 0} (R : Rulebook S C Q) where
   -- the changes in the base are those that can't be taken back any more; the log has the rest
   pub record Agrees (d : Desk S C) (b : Book C) : Type 0 where
     pub older : List C
-    pub base-is : d .base ≡ after R (R .none) older
+    pub base-is : d .base ≡ changed R (R .none) older
     pub split : b .survivors ≡ older ++ d .log
     pub now : d .current ≡ recordsOf R b
     pub count-is : b .count ≡ length (d .log)
@@ -45,19 +46,14 @@ module _ {S C Q : Type 0} (R : Rulebook S C Q) where
     pub answers : o .answer ≡ e .answer
 
   module _ (d : Desk S C) (b : Book C) (a : Agrees d b) where
-    one-more : (c : C) → R .apply (d .current) c ≡ after R (R .none) (b .survivors ++ (c ∷ []))
+    one-more : (c : C) → R .apply (d .current) c ≡ changed R (R .none) (b .survivors ++ (c ∷ []))
     one-more c = ap (λ (s : S). R .apply s c) (a .now) ∙ sym (foldl-append (R .apply) (R .none) (b .survivors) (c ∷ []))
 
-    pub keep-agrees : (c : C) (n : ℕ) → Agrees (keep R d c n) (enter R b c n)
-    unfolding keep
-    keep-agrees c n = by-room (ltb (length (d .log)) 32) refl
+    pub keep-agrees : (c : C) (n : ℕ) → Agrees (keepChange R d c n) (enter R b c n)
+    keep-agrees c n = keep-ways R (λ e. Agrees e (enter R b c n)) d c n by-room by-base
       where
-        by-room : (t : Bool) → ltb (length (d .log)) 32 ≡ t → Agrees
-            (cond t
-            (record { base = d .base; log = d .log ++ (c ∷ []); current = R .apply (d .current) c; last = n })
-            (record { base = after R (d .base) (take 1 (d .log)); log = drop 1 (d .log) ++ (c ∷ []); current = R .apply (d .current) c; last = n }))
-            (enter R b c n)
-        by-room true t =
+        by-room : ltb (length (d .log)) 32 ≡ true → Agrees (record { base = d .base; log = d .log ++ (c ∷ []); current = R .apply (d .current) c; last = n }) (enter R b c n)
+        by-room t =
             let l = length-append (d .log) (c ∷ []) in
             let room = ltb-true (length (d .log)) 32 t in
             record {
@@ -69,7 +65,10 @@ module _ {S C Q : Type 0} (R : Rulebook S C Q) where
               most = omega arith;
               last-is = refl;
             }
-        by-room false t =
+
+        by-base : ltb (length (d .log)) 32 ≡ false
+            → Agrees (record { base = changed R (d .base) (take 1 (d .log)); log = drop 1 (d .log) ++ (c ∷ []); current = R .apply (d .current) c; last = n }) (enter R b c n)
+        by-base t =
             let l = length-append (drop 1 (d .log)) (c ∷ []) in
             let m = length-drop 1 (d .log) in
             let full = ltb-false (length (d .log)) 32 t in
@@ -77,7 +76,7 @@ module _ {S C Q : Type 0} (R : Rulebook S C Q) where
             ap (λ (r : List C). a .older ++ r) (sym (take-append-drop 1 (d .log))) ∙ sym (append-assoc (a .older) (take 1 (d .log)) (drop 1 (d .log))) in
             record {
               older = a .older ++ take 1 (d .log);
-              base-is = ap (λ (s : S). after R s (take 1 (d .log))) (a .base-is) ∙ sym (foldl-append (R .apply) (R .none) (a .older) (take 1 (d .log)));
+              base-is = ap (λ (s : S). changed R s (take 1 (d .log))) (a .base-is) ∙ sym (foldl-append (R .apply) (R .none) (a .older) (take 1 (d .log)));
               split = ap (λ (r : List C). r ++ (c ∷ [])) (a .split ∙ parts) ∙ append-assoc (a .older ++ take 1 (d .log)) (drop 1 (d .log)) (c ∷ []);
               now = one-more c;
               count-is = omega (arith, a .count-is, a .most);
@@ -88,22 +87,18 @@ module _ {S C Q : Type 0} (R : Rulebook S C Q) where
     pub back-same : Same (takeBack R d) (strike R b)
     unfolding takeBack
     back-same =
-        subst (λ (u : Bool). Same (takeBack R d) (cond u (entry b (Refused 12)) struck))
+        subst (λ (u : Bool). Same (takeBack R d) (cond u (entry b (Refused 12)) (entry (struck R b) Granted)))
         (sym (ap (λ (n : ℕ). eqb n 0) (a .count-is))) (by-count (eqb (length (d .log)) 0) refl)
       where
-        struck : Entry C
-        struck = entry (record { survivors = take (length (b .survivors) - 1) (b .survivors); count = b .count - 1; last = b .last }) Granted
-
         by-count : (t : Bool) → eqb (length (d .log)) 0 ≡ t → Same
             (cond t (outcome d (Refused 12))
-            (outcome (record { base = d .base; log = take (length (d .log) - 1) (d .log); current = after R (d .base) (take (length (d .log) - 1) (d .log)); last = d .last }) Granted))
-            (cond t (entry b (Refused 12))
-            (entry (record { survivors = take (length (b .survivors) - 1) (b .survivors); count = b .count - 1; last = b .last }) Granted))
+            (outcome (record { base = d .base; log = take (length (d .log) - 1) (d .log); current = changed R (d .base) (take (length (d .log) - 1) (d .log)); last = d .last }) Granted))
+            (cond t (entry b (Refused 12)) (entry (struck R b) Granted))
         by-count true t = record { agrees = a; answers = refl }
         by-count false t =
             let some : 0 < length (d .log) = omega (arith, eqb-false (length (d .log)) 0 t) in
             let l = length-take (length (d .log) - 1) (d .log) in
-            let rest : take (length (b .survivors) - 1) (b .survivors) ≡ a .older ++ take (length (d .log) - 1) (d .log) =
+            let rest : struck R b .survivors ≡ a .older ++ take (length (d .log) - 1) (d .log) =
             ap (λ (r : List C). take (length r - 1) r) (a .split) ∙ newest-goes (a .older) (d .log) some in
             record {
               agrees = record {
@@ -111,9 +106,9 @@ module _ {S C Q : Type 0} (R : Rulebook S C Q) where
                 base-is = a .base-is;
                 split = rest;
                 now =
-                    ap (λ (s : S). after R s (take (length (d .log) - 1) (d .log))) (a .base-is)
+                    ap (λ (s : S). changed R s (take (length (d .log) - 1) (d .log))) (a .base-is)
                     ∙ sym (foldl-append (R .apply) (R .none) (a .older) (take (length (d .log) - 1) (d .log)))
-                    ∙ ap (after R (R .none)) (sym rest);
+                    ∙ ap (changed R (R .none)) (sym rest);
                 count-is = omega (arith, a .count-is);
                 most = omega (arith, a .most);
                 last-is = a .last-is;
@@ -125,11 +120,11 @@ module _ {S C Q : Type 0} (R : Rulebook S C Q) where
     ruled-same (refuse n) = record { agrees = a; answers = refl }
     ruled-same pass = record { agrees = a; answers = refl }
     ruled-same (make c) =
-        record { agrees = subst (λ (n : ℕ). Agrees (keep R d c (d .last)) (enter R b c n)) (a .last-is) (keep-agrees c (d .last)); answers = refl }
+        record { agrees = subst (λ (n : ℕ). Agrees (keepChange R d c (d .last)) (enter R b c n)) (a .last-is) (keep-agrees c (d .last)); answers = refl }
     ruled-same (issue f) =
-        subst (λ (n : ℕ). Same (issued R d f (nextAfter (d .last))) (numbered R b f (nextAfter n))) (a .last-is) (by-next (nextAfter (d .last)))
+        subst (λ (n : ℕ). Same (issued R d f (nextAfter (d .last))) (enterNumbered R b f (nextAfter n))) (a .last-is) (by-next (nextAfter (d .last)))
       where
-        by-next : (x : Next) → Same (issued R d f x) (numbered R b f x)
+        by-next : (x : Next) → Same (issued R d f x) (enterNumbered R b f x)
         by-next (Number n) = record { agrees = keep-agrees (f n) n; answers = refl }
         by-next Spent = record { agrees = a; answers = refl }
     ruled-same undo = back-same

@@ -1,14 +1,11 @@
 -- Demands 2 and 3 of this desk: at any desk, and over any requests from any opening.
 use mathlib.Core.Path.{_≡_, refl, ap, _∙_}
-use mathlib.Core.Bool.{Bool, true, false, cond}
-use mathlib.Core.List.{List, [], _∷_, _++_, foldl}
+use mathlib.Core.List.{List, [], foldl}
 use Prim.Native.Nat.{ℕ, _+_}
-use native.Mathlib.Omega.{arith}
-use lib.Dec.{ltb}
-use lib.ListN.{length, take, drop}
 use borrow.Author.Tests.{eq-eqb, ne-eqb}
 use Rattle.request.specs.declared.Request.{Request}
 use Rattle.request.specs.declared.Request.the-variants.{TakeBack}
+use Rattle.request.proofs.Absurd.{differ}
 use Rattle.records.specs.House.{House, emptyHouse}
 use Rattle.effects.specs.Effects.{applied}
 use Rattle.effects.specs.declared.Change.{Change}
@@ -18,14 +15,16 @@ use Rattle.judge.specs.declared.Ruling.{Ruling}
 use Rattle.judge.specs.declared.Ruling.the-variants.{Pass, Keep, KeepNumbered}
 use Rattle.judge.proofs.Order.{granted-exactly, refused-exactly}
 use Rattle.counter.specs.Numbers.{top}
-use Rattle.history.specs.Machine.{pass, make, issue, undo, Desk, outcome, opened, keep, issued, ruled, step, run, answers}
+use Rattle.history.specs.Machine.{pass, make, issue, undo, Desk, outcome, keepChange, issued, ruled, step}
 use Rattle.history.specs.Desk.{changeOf, verdictOf, deskRules}
 use Rattle.history.specs.declared.Answer.{Answer}
-use Rattle.promises.specs.Book.{blank, bookAfter, numbers, Rising, kept, back, nothing, events, survive, keptCount, Shows}
-use Rattle.promises.specs.Events.{grantShows, eventOf}
+use Rattle.promises.specs.Back.{TakenBack}
+use Rattle.promises.specs.Book.{blank, bookAfter, numbers, Rising, kept, back, nothing, events, survive, Shows}
+use Rattle.promises.specs.Events.{grantShows, eventOf, reachedDesk, given, keptNow}
 use Rattle.promises.proofs.Granted.{conditions}
 use Rattle.promises.proofs.Runs.{records-are-survivors, numbers-rise}
-use Rattle.promises.proofs.Trace.{records-are-shown, TakenBack, none-to-take-back, take-back-granted}
+use Rattle.promises.proofs.Past
+use Rattle.promises.proofs.Trace.{records-are-shown, none-to-take-back, take-back-granted}
 
 -- ---- Demand 2, at any desk d, so at every desk reached: a request is granted exactly when all conditions of its kind hold in the present records
 module _ (d : Desk House Change) (q : Request) where
@@ -33,7 +32,7 @@ module _ (d : Desk House Change) (q : Request) where
   unfolding step
   by-ruling r e = ap (λ (x : Ruling). ruled deskRules d (verdictOf q x)) e
 
-  allowed : (r : Ruling) → grantOf q ≡ r → AllHold (linesOf (d .current) q) → rulingOf (d .current) q ≡ r
+  pub allowed : (r : Ruling) → grantOf q ≡ r → AllHold (linesOf (d .current) q) → rulingOf (d .current) q ≡ r
   allowed r e all = granted-exactly (d .current) q .1 all ∙ e
 
   -- the first condition that fails refuses with its number, and nothing changes
@@ -45,12 +44,12 @@ module _ (d : Desk House Change) (q : Request) where
   passed e all = by-ruling Pass (allowed Pass e all)
 
   -- all conditions hold, and the kind is kept: the records are then those of its effect
-  pub made : grantOf q ≡ Keep → AllHold (linesOf (d .current) q) → step deskRules d q ≡ outcome (keep deskRules d (changeOf q 0) (d .last)) Answer.Granted
+  pub made : grantOf q ≡ Keep → AllHold (linesOf (d .current) q) → step deskRules d q ≡ outcome (keepChange deskRules d (changeOf q 0) (d .last)) Answer.Granted
   made e all = by-ruling Keep (allowed Keep e all)
 
   -- all conditions hold, and the kind gets a number: it is one more than the last
   pub numbered : grantOf q ≡ KeepNumbered → AllHold (linesOf (d .current) q) → (d .last ≡ top → ⊥)
-      → step deskRules d q ≡ outcome (keep deskRules d (changeOf q (d .last + 1)) (d .last + 1)) (Answer.Numbered (d .last + 1))
+      → step deskRules d q ≡ outcome (keepChange deskRules d (changeOf q (d .last + 1)) (d .last + 1)) (Answer.Numbered (d .last + 1))
   numbered e all left = by-ruling KeepNumbered (allowed KeepNumbered e all) ∙ rw (ne-eqb (d .last) top left)
 
   -- 11: no number is left
@@ -58,45 +57,37 @@ module _ (d : Desk House Change) (q : Request) where
   spent e all none = by-ruling KeepNumbered (allowed KeepNumbered e all) ∙ rw (eq-eqb (d .last) top none)
 
 -- the records after a kept change are its effect on those before it
-pub records-after : (d : Desk House Change) (c : Change) (n : ℕ) → keep deskRules d c n .current ≡ applied (d .current) c
-unfolding keep
-records-after d c n = by-room (ltb (length (d .log)) 32)
-  where
-    by-room : (t : Bool) → cond {A = Desk House Change} t
-        (record { base = d .base; log = d .log ++ (c ∷ []); current = applied (d .current) c; last = n })
-        (record { base = foldl applied (d .base) (take 1 (d .log)); log = drop 1 (d .log) ++ (c ∷ []); current = applied (d .current) c; last = n }) .current
-        ≡ applied (d .current) c
-    by-room true = refl
-    by-room false = refl
+pub records-after : (d : Desk House Change) (c : Change) (n : ℕ) → keepChange deskRules d c n .current ≡ applied (d .current) c
+records-after d c n = Past.records-after deskRules d c n
 
 -- ---- Demand 3, over any requests from any opening
 module _ (h : House) (q : Request) where
   shown-pass : (r : Ruling) → rulingOf h q ≡ r → verdictOf q r ≡ pass → grantShows q (grantOf q) ≡ nothing
-  shown-pass (Ruling.Refused n) e w = let z : _≡_ {A = ℕ} 0 1 = cc in absurd (omega arith)
+  shown-pass (Ruling.Refused n) e w = differ cc
   shown-pass Pass e w = ap (grantShows q) (conditions h q Pass refl e .given)
-  shown-pass Keep e w = let z : _≡_ {A = ℕ} 0 1 = cc in absurd (omega arith)
-  shown-pass KeepNumbered e w = let z : _≡_ {A = ℕ} 0 1 = cc in absurd (omega arith)
-  shown-pass Ruling.TakeBack e w = let z : _≡_ {A = ℕ} 0 1 = cc in absurd (omega arith)
+  shown-pass Keep e w = differ cc
+  shown-pass KeepNumbered e w = differ cc
+  shown-pass Ruling.TakeBack e w = differ cc
 
   shown-make : (c : Change) (r : Ruling) → rulingOf h q ≡ r → verdictOf q r ≡ make c → grantShows q (grantOf q) ≡ kept c
-  shown-make c (Ruling.Refused n) e w = let z : _≡_ {A = ℕ} 0 1 = cc in absurd (omega arith)
-  shown-make c Pass e w = let z : _≡_ {A = ℕ} 0 1 = cc in absurd (omega arith)
+  shown-make c (Ruling.Refused n) e w = differ cc
+  shown-make c Pass e w = differ cc
   shown-make c Keep e w = let same : changeOf q 0 ≡ c = cc in ap (grantShows q) (conditions h q Keep refl e .given) ∙ ap kept same
-  shown-make c KeepNumbered e w = let z : _≡_ {A = ℕ} 0 1 = cc in absurd (omega arith)
-  shown-make c Ruling.TakeBack e w = let z : _≡_ {A = ℕ} 0 1 = cc in absurd (omega arith)
+  shown-make c KeepNumbered e w = differ cc
+  shown-make c Ruling.TakeBack e w = differ cc
 
   shown-number : (g : ℕ → Change) (n : ℕ) (r : Ruling) → verdictOf q r ≡ issue g → kept (changeOf q n) ≡ kept (g n)
-  shown-number g n (Ruling.Refused m) w = let z : _≡_ {A = ℕ} 0 1 = cc in absurd (omega arith)
-  shown-number g n Pass w = let z : _≡_ {A = ℕ} 0 1 = cc in absurd (omega arith)
-  shown-number g n Keep w = let z : _≡_ {A = ℕ} 0 1 = cc in absurd (omega arith)
+  shown-number g n (Ruling.Refused m) w = differ cc
+  shown-number g n Pass w = differ cc
+  shown-number g n Keep w = differ cc
   shown-number g n KeepNumbered w = let same : _≡_ {A = ℕ → Change} (changeOf q) g = cc in ap (λ (f : ℕ → Change). kept (f n)) same
-  shown-number g n Ruling.TakeBack w = let z : _≡_ {A = ℕ} 0 1 = cc in absurd (omega arith)
+  shown-number g n Ruling.TakeBack w = differ cc
 
   shown-back : (r : Ruling) → rulingOf h q ≡ r → verdictOf q r ≡ undo → grantShows q (grantOf q) ≡ back
-  shown-back (Ruling.Refused n) e w = let z : _≡_ {A = ℕ} 0 1 = cc in absurd (omega arith)
-  shown-back Pass e w = let z : _≡_ {A = ℕ} 0 1 = cc in absurd (omega arith)
-  shown-back Keep e w = let z : _≡_ {A = ℕ} 0 1 = cc in absurd (omega arith)
-  shown-back KeepNumbered e w = let z : _≡_ {A = ℕ} 0 1 = cc in absurd (omega arith)
+  shown-back (Ruling.Refused n) e w = differ cc
+  shown-back Pass e w = differ cc
+  shown-back Keep e w = differ cc
+  shown-back KeepNumbered e w = differ cc
   shown-back Ruling.TakeBack e w = ap (grantShows q) (conditions h q Ruling.TakeBack refl e .given)
 
 -- an answer of this desk shows what happened
@@ -110,37 +101,27 @@ shows = record {
 }
 
 module _ (last : ℕ) (qs : List Request) where
-  abbrev pub reachedDesk : Desk House Change
-  reachedDesk = run deskRules (opened deskRules last) qs
-
-  abbrev pub given : List Answer
-  given = answers deskRules (opened deskRules last) qs
-
   -- "the records equal those got by starting empty and applying, in order, every granted change that wasn't taken back, each with the draft number it
   -- received": against the book of survivors ..
-  pub by-the-book : reachedDesk .current ≡ foldl applied emptyHouse (bookAfter deskRules (blank last) qs .survivors)
+  pub by-the-book : reachedDesk last qs .current ≡ foldl applied emptyHouse (bookAfter deskRules (blank last) qs .survivors)
   by-the-book = records-are-survivors deskRules last qs
 
   -- .. and over requests and answers alone
-  pub by-the-answers : reachedDesk .current ≡ foldl applied emptyHouse (survive [] (events eventOf qs given))
+  pub by-the-answers : reachedDesk last qs .current ≡ foldl applied emptyHouse (survive [] (events eventOf qs (given last qs)))
   by-the-answers = records-are-shown deskRules eventOf shows last qs
 
   -- "Each draft number is larger than all before it, taken-back ones included", and larger than the opening number
-  pub rising : Rising last (numbers given)
+  pub rising : Rising last (numbers (given last qs))
   rising = numbers-rise deskRules last qs
 
-  -- the kept count by 01's rule, read off requests and answers
-  abbrev pub keptNow : ℕ
-  keptNow = keptCount 0 (events eventOf qs given)
-
-  module _ (u : ℕ) (all : AllHold (linesOf (reachedDesk .current) (TakeBack u))) where
-    allowed-back : deskRules .judge (reachedDesk .current) (TakeBack u) ≡ undo
-    allowed-back = ap (verdictOf (TakeBack u)) (allowed reachedDesk (TakeBack u) Ruling.TakeBack refl all)
+  module _ (u : ℕ) (all : AllHold (linesOf (reachedDesk last qs .current) (TakeBack u))) where
+    allowed-back : deskRules .judge (reachedDesk last qs .current) (TakeBack u) ≡ undo
+    allowed-back = ap (verdictOf (TakeBack u)) (allowed (reachedDesk last qs) (TakeBack u) Ruling.TakeBack refl all)
 
     -- a take-back by an administrator: "refused for want of one exactly when none of the last 32 is left by the counting rule" ..
-    pub no-change-left : keptNow ≡ 0 → step deskRules reachedDesk (TakeBack u) ≡ outcome reachedDesk (Answer.Refused 12)
+    pub no-change-left : keptNow last qs ≡ 0 → step deskRules (reachedDesk last qs) (TakeBack u) ≡ outcome (reachedDesk last qs) (Answer.Refused 12)
     no-change-left none = none-to-take-back deskRules eventOf shows last qs (TakeBack u) allowed-back none
 
     -- .. else the newest kept change goes and no other, and the number stays
-    pub newest-goes : (keptNow ≡ 0 → ⊥) → TakenBack deskRules reachedDesk (step deskRules reachedDesk (TakeBack u))
+    pub newest-goes : (keptNow last qs ≡ 0 → ⊥) → TakenBack deskRules (reachedDesk last qs) (step deskRules (reachedDesk last qs) (TakeBack u))
     newest-goes some = take-back-granted deskRules eventOf shows last qs (TakeBack u) allowed-back some

@@ -1,6 +1,71 @@
--- Any two results that a contract allows coincide: a contract that is an equation with a definition leaves one.
-use mathlib.Core.Path.{_≡_, sym, _∙_}
+-- Any two results that a contract allows coincide. A contract that is an equation with a definition on the arguments leaves one result; for each public
+-- contract of another form a theorem takes what its `ensures` says of two results, and what `view`, `past` or `shown` shows of the parts lent.
+use Prim.Native.Nat.{ℕ, _≤_}
+use mathlib.Core.Path.{_≡_, sym, ap, _∙_}
+use mathlib.Core.List.{List}
+use lib.ListN.{length}
+use Rattle.request.specs.declared.Request.{Request}
+use Rattle.records.specs.House.{House, view}
+use Rattle.effects.specs.declared.Change.{Change}
+use Rattle.counter.specs.Numbers.{nextAfter, lastAfter}
+use Rattle.counter.specs.declared.Counter.{Counter}
+use Rattle.counter.specs.declared.Issued.{Issued}
+use Rattle.counter.specs.declared.Next.{Next}
+use Rattle.log.specs.Log.{past}
+use Rattle.history.specs.Machine.{Outcome, outcome, opened, step}
+use Rattle.history.specs.Desk.{deskRules, shown}
+use Rattle.history.specs.declared.Answer.{Answer}
+use Rattle.history.specs.declared.Desk.{Desk}
+use Rattle.batch.specs.Batch.{State, Batched}
+use Rattle.batch.specs.declared.Ran.{Ran}
+use Rattle.batch.specs.declared.RanDesk.{RanDesk}
+use Rattle.batch.proofs.Bounds.{one-result}
 
 -- r and s are results (or what a view shows of records), v what the definition says
 pub determined : {A : Type 0} {r s v : A} → r ≡ v → s ≡ v → r ≡ s
 determined p q = p ∙ sym q
+
+-- what a desk shows
+abbrev shownOf : Desk → State
+shownOf d = shown (d .base) (d .log) (d .current) (d .last)
+
+-- two results of records::draft_count: one-draft-count
+pub one-draft-count : (records : List ℕ) (r s : ℕ) → (r ≡ length (view records .drafts)) × (r ≤ 256) → (s ≡ length (view records .drafts)) × (s ≤ 256) → r ≡ s
+one-draft-count records r s p q = determined (p .0) (q .0)
+
+-- two results of log::kept_count: one-kept-count
+pub one-kept-count : (log : List ℕ) (r s : ℕ) → (r ≡ length (past log)) × (r ≤ 32) → (s ≡ length (past log)) × (s ≤ 32) → r ≡ s
+one-kept-count log r s p q = determined (p .0) (q .0)
+
+-- two results of counter::issue: one-issue
+pub one-issue : (entry c d : Counter) (r s : Next)
+    → (r ≡ nextAfter (entry .last)) × (c .last ≡ lastAfter (entry .last))
+    → (s ≡ nextAfter (entry .last)) × (d .last ≡ lastAfter (entry .last)) → (r ≡ s) × (c ≡ d)
+one-issue entry c d r s p q = (determined (p .0) (q .0), (λ i. record { last = determined (p .1) (q .1) i }))
+
+-- two results of counter::issue_from: one-issued
+pub one-issued : (last : ℕ) (r s : Issued)
+    → (r .next ≡ nextAfter last) × (r .last ≡ lastAfter last) → (s .next ≡ nextAfter last) × (s .last ≡ lastAfter last) → r ≡ s
+one-issued last r s p q = λ i. record { next = determined (p .0) (q .0) i; last = determined (p .1) (q .1) i }
+
+-- two results of history::open: one-opened
+pub one-opened : (last : ℕ) (r s : Desk) → shownOf r ≡ opened deskRules last → shownOf s ≡ opened deskRules last → shownOf r ≡ shownOf s
+one-opened last r s p q = determined p q
+
+-- d₁ and d₂ are what `shown` shows of the parts at exit
+-- two results of history::take: one-taken
+pub one-taken : (d : State) (request : Request) (d₁ d₂ : State) (r s : Answer)
+    → outcome d₁ r ≡ step deskRules d request → outcome d₂ s ≡ step deskRules d request → (d₁ ≡ d₂) × (r ≡ s)
+one-taken d request d₁ d₂ r s p q =
+    (ap (λ (o : Outcome House Change). o .desk) (determined p q), ap (λ (o : Outcome House Change). o .answer) (determined p q))
+
+-- two results of batch::run: one-run
+pub one-run : (d : State) (requests answers : List ℕ) (place : ℕ) (d₁ d₂ : State) (r s : Ran) (answers₁ answers₂ : List ℕ)
+    → Batched d requests answers place d₁ r answers₁ → Batched d requests answers place d₂ s answers₂ → (d₁ ≡ d₂) × ((r ≡ s) × (answers₁ ≡ answers₂))
+one-run d requests answers place d₁ d₂ r s answers₁ answers₂ p q = one-result p q
+
+-- two results of batch::run_desk: one-ran-desk
+pub one-ran-desk : (d : State) (requests answers : List ℕ) (place : ℕ) (r s : RanDesk) (answers₁ answers₂ : List ℕ)
+    → Batched d requests answers place (shownOf (r .desk)) (r .ran) answers₁ → Batched d requests answers place (shownOf (s .desk)) (s .ran) answers₂
+    → (shownOf (r .desk) ≡ shownOf (s .desk)) × ((r .ran ≡ s .ran) × (answers₁ ≡ answers₂))
+one-ran-desk d requests answers place r s answers₁ answers₂ p q = one-result p q

@@ -5,13 +5,12 @@ use mathlib.Core.Bool.{Bool, true, false, cond}
 use mathlib.Core.List.{List, [], _∷_, _++_, map}
 use native.Mathlib.Omega.{arith}
 use lib.ListN.{getD, set}
-use Rattle.records.specs.Lists.{keep}
+use Rattle.records.specs.Lists.{filter}
 use Rattle.records.specs.House.{noScript, noDraft}
 use Rattle.records.specs.declared.Script.{Script}
 use Rattle.records.specs.declared.Draft.{Draft}
+use Rattle.promises.specs.Facts.{Among, Filed, Ascending, Texts}
 use Rattle.promises.proofs.Lists.{each-imp}
-use Rattle.promises.proofs.Sets.{Among}
-use Rattle.promises.proofs.Rules.{Filed, Ascending, Texts}
 use Rattle.promises.proofs.Parts.{place-move}
 
 -- ---- more rooms
@@ -45,13 +44,13 @@ ascending-lower : (n m last : ℕ) → n ≤ m → (l : List Draft) → Ascendin
 ascending-lower n m last h [] a = tt
 ascending-lower n m last h (d ∷ ds) a = ((omega (arith, a .0 .0), a .0 .1), a .1)
 
-pub ascending-keep : (p : Draft → Bool) (n last : ℕ) (l : List Draft) → Ascending n last l → Ascending n last (keep p l)
+pub ascending-keep : (p : Draft → Bool) (n last : ℕ) (l : List Draft) → Ascending n last l → Ascending n last (filter p l)
 ascending-keep p n last [] a = tt
 ascending-keep p n last (d ∷ ds) a = go (ascending-keep p (d .number) last ds (a .1)) (p d)
   where
-    go : Ascending (d .number) last (keep p ds) → (b : Bool) → Ascending n last (cond b (d ∷ keep p ds) (keep p ds))
+    go : Ascending (d .number) last (filter p ds) → (b : Bool) → Ascending n last (cond b (d ∷ filter p ds) (filter p ds))
     go r true = (a .0, r)
-    go r false = ascending-lower n (d .number) last (omega (arith, a .0 .0)) (keep p ds) r
+    go r false = ascending-lower n (d .number) last (omega (arith, a .0 .0)) (filter p ds) r
 
 pub ascending-map : (f : Draft → Draft) → ((d : Draft) → f d .number ≡ d .number) → (n last : ℕ) (l : List Draft) → Ascending n last l
     → Ascending n last (map f l)

@@ -10,9 +10,7 @@ use lib.ListN.{length}
 use borrow.Author.Tests.{eqb-true, eq-eqb, leb-true, ltb-true, not-true}
 use Rattle.records.specs.Places.{has}
 use Rattle.records.specs.House.{House, emptyHouse, house, staff, outsider, user, script}
-use Rattle.promises.specs.Rules.{rules}
 use Rattle.records.specs.declared.User.{User}
-use Rattle.promises.proofs.Empty.{empty-meets}
 use Rattle.request.specs.declared.Request.{Request}
 use Rattle.request.specs.declared.Request.the-variants.{Enrol, Establish, JoinStaff, LeaveStaff, JoinOutsider, LeaveOutsider, Add, Remove, Import, Merge, Disband, OpenInRoom, OpenInHouse, OpenReadOnly, Read, Update, Create, Kill, TakeBack}
 use Rattle.effects.specs.Effects.{effect}
@@ -21,15 +19,17 @@ use Rattle.judge.specs.declared.Ruling.the-variants.{Refused, Pass, Keep, KeepN
 use Rattle.fields.specs.Fields.{isId, isRoomNumber, isSort, first, mayEnrol}
 use Rattle.conditions.specs.Conditions.{noUsers, isStaff}
 use Rattle.judge.specs.Kinds.{enrolLines, establishLines, joinStaffLines, leaveStaffLines, joinOutsiderLines, leaveOutsiderLines, addLines, removeLines, importLines, mergeLines, disbandLines, openInRoomLines, openInHouseLines, openReadOnlyLines, updateLines, createLines, killLines, linesOf, grantOf, rulingOf}
+use Rattle.promises.specs.Rules.{rules}
+use Rattle.promises.specs.Facts.{RoomNumber, LabelFits, Administered, Rules}
 use Rattle.promises.specs.Fits.{bytes, twoBytes, fits}
+use Rattle.promises.proofs.Empty.{empty-meets}
 use Rattle.promises.proofs.Bools.{clash, left, right, equal, _and_, _then_}
-use Rattle.promises.proofs.Sets.{RoomNumber}
-use Rattle.promises.proofs.Rules.{LabelFits, Administered, Rules}
 use Rattle.promises.proofs.Meaning.{rules-are}
 use Rattle.promises.proofs.Granted.{Hold, conditions}
 use Rattle.promises.proofs.Drafts.{ascending-later}
 use Rattle.promises.proofs.Users.{enrol, establish, join-staff, join-outsider, leave}
-use Rattle.promises.proofs.Sessions.{covers-are, open-in-room, open-in-house, open-read-only, kill}
+use Rattle.conditions.proofs.Labels.{covered}
+use Rattle.promises.proofs.Sessions.{open-in-room, open-in-house, open-read-only, kill}
 use Rattle.promises.proofs.Texts.{add, merge, imports, update, create}
 use Rattle.promises.proofs.Sweep.{remove, disband}
 
@@ -41,7 +41,7 @@ id-of : (n : ℕ) → isId n ≡ true → n < 64
 id-of n k = omega (arith, leb-true n 63 k)
 
 label-of : (level c : ℕ) (others : Bool) → leb level 7 ≡ true → (others && twoBytes c) ≡ true → LabelFits level c
-label-of level c others k f = record { level-fits = leb-true level 7 k; categories-fit = ltb-true c 65536 (right others (twoBytes c) f) }
+label-of level c others k f = record { level-fits = leb-true level 7 k; categories-fit = omega (arith, ltb-true c _ (right others (twoBytes c) f)) }
 
 staff-of : (u : User) → isStaff u ≡ true → u .sort ≡ staff
 staff-of u k = eqb-true (u .sort) staff (right (u .here) (eqb (u .sort) staff) k)
@@ -105,11 +105,11 @@ module _ (h : House) (last : ℕ) (R : Rules h last) where
   next n (Disband u room) w f = disband room (room-of room (f 1)) h last R
   next n (OpenInRoom u x room level c) w f =
       let l = label-of level c (bytes (u ∷ x ∷ room ∷ level ∷ [])) (f 3) w in
-      let o = covers-are (user h u .level) (user h u .categories) level c (R .people .each u .label) l (f 8) in
+      let o = covered (user h u .level) (user h u .categories) level c .says (f 8) in
       open-in-room h last R x (id-of x (f 1)) u level c (f 4) l o room (room-of room (f 2) .low) (f 5) (f 7)
   next n (OpenInHouse u x level c) w f =
       let l = label-of level c (bytes (u ∷ x ∷ level ∷ [])) (f 2) w in
-      let o = covers-are (user h u .level) (user h u .categories) level c (R .people .each u .label) l (f 6) in
+      let o = covered (user h u .level) (user h u .categories) level c .says (f 6) in
       open-in-house h last R x (id-of x (f 1)) u level c (f 3) l o (staff-of (user h u) (f 5))
   next n (OpenReadOnly u x level c) w f = open-read-only h last R x (id-of x (f 1)) u level c (f 3) (label-of level c (bytes (u ∷ x ∷ level ∷ [])) (f 2) w)
   next n (Read x s v) w f = tt
@@ -149,7 +149,7 @@ module _ (h : House) (last : ℕ) (meets : rules h last ≡ true) where
       each = R .texts .each;
       drafted = R .texts .drafted;
       filed = R .texts .filed;
-      ascending = ascending-later 0 last next le (h .drafts) (R .texts .ascending);
+      ascending = ascending-later _ last next le (h .drafts) (R .texts .ascending);
       at-most = R .texts .at-most;
     };
     counter = top;

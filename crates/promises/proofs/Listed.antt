@@ -1,38 +1,27 @@
 -- "A refusal is one listed number, changes nothing in the records", and its byte is "C0 plus n": of any desk and any request.
-use Prim.Native.Nat.{ℕ, _+_, _-_, _≤_}
-use mathlib.Core.Path.{_≡_, refl, ap, _∙_}
-use mathlib.Core.Bool.{Bool, true, false, cond, _&&_, _||_}
+use Prim.Native.Nat.{ℕ, _≤_, _<_}
+use mathlib.Core.Path.{_≡_, refl, sym, ap, _∙_}
+use mathlib.Core.Bool.{Bool, true, false, _&&_, _||_}
 use mathlib.Core.List.{List, [], _∷_}
 use native.Mathlib.Omega.{arith}
 use lib.Dec.{eqb, leb}
-use lib.ListN.{length, take}
 use borrow.Author.Tests.{eqb-true, leb-true}
 use Rattle.request.specs.declared.Request.{Request}
 use Rattle.request.specs.declared.Request.the-variants.{Enrol, Establish, JoinStaff, LeaveStaff, JoinOutsider, LeaveOutsider, Add, Remove, Import, Merge, Disband, OpenInRoom, OpenInHouse, OpenReadOnly, Read, Update, Create, Kill, TakeBack}
+use Rattle.request.proofs.Absurd.{differ}
 use Rattle.records.specs.Lists.{any, all}
 use Rattle.records.specs.House.{House}
 use Rattle.effects.specs.declared.Change.{Change}
-use Rattle.judge.specs.Kinds.{rulingOf}
 use Rattle.judge.specs.Table.{refusals}
 use Rattle.judge.specs.declared.Ruling.{Ruling}
-use Rattle.judge.specs.declared.Ruling.the-variants.{Pass, Keep, KeepNumbered}
 use Rattle.judge.proofs.Order.{refused-by-table}
-use Rattle.counter.specs.Numbers.{top}
-use Rattle.counter.specs.declared.Next.the-variants.{Number, Spent}
-use Rattle.history.specs.Machine.{Desk, Outcome, outcome, after, issued, ruled, takeBack, step}
-use Rattle.history.specs.Desk.{changeOf, verdictOf, deskRules, answerBytes}
-use Rattle.history.specs.declared.Answer.{Answer}
+use Rattle.history.specs.Machine.{Desk, Outcome, step, answers}
+use Rattle.history.specs.Desk.{deskRules}
+use Rattle.history.specs.declared.Answer.the-variants.{Granted, Refused}
+use Rattle.promises.specs.Lists.{Each}
+use Rattle.promises.specs.Grants.{Listed, in-row, no-number, no-change, Refusal, ToRequest}
 use Rattle.promises.proofs.Bools.{clash, left, right}
-
--- what every refusal with n is, and leaves
-pub record Refusal (d : Desk House Change) (o : Outcome House Change) (n : ℕ) : Type 0 where
-  pub listed : (3 ≤ n) × (n ≤ 12)
-  pub byte : answerBytes (Answer.Refused n) ≡ (0xC0 + n) ∷ []
-  pub unchanged : o .desk ≡ d
-
--- the remainder by which the byte is defined takes nothing away
-below : (d : Desk House Change) (o : Outcome House Change) (n : ℕ) → 3 ≤ n → n ≤ 12 → o .desk ≡ d → Refusal d o n
-below d o n l u same = record { listed = (l, u); byte = ap (λ (b : ℕ). b ∷ []) (omega arith); unchanged = same }
+use Rattle.promises.proofs.Ways.{Way, by-rule, read, plain, with-number, back, way}
 
 -- ---- the judge's numbers
 abbrev of-judge : ℕ → Bool
@@ -67,39 +56,54 @@ of-all p n (x ∷ xs) a b = go (eqb n x) refl a (λ r. of-all p n xs r (right (p
     go true e a later = ap p (eqb-true n x e) ∙ left (p x) (all p xs) b
     go false e a later = later a
 
+-- a listed number is one of 3 to 12
+module _ (q : Request) (n : ℕ) where
+  pub from-3-to-12 : Listed q n → (3 ≤ n) × (n ≤ 12)
+  from-3-to-12 (in-row r) =
+      let t = of-all of-judge n (refusals q) r (rows-small q) in
+      let low = leb-true 3 n (left (leb 3 n) (leb n 10) t) in
+      let high = leb-true n 10 (right (leb 3 n) (leb n 10) t) in
+      (omega arith, omega arith)
+  from-3-to-12 (no-number e k) = (omega arith, omega arith)
+  from-3-to-12 (no-change e k) = (omega arith, omega arith)
+
 module _ (d : Desk House Change) (q : Request) (n : ℕ) where
-  by-judge : (m : ℕ) → rulingOf (d .current) q ≡ Ruling.Refused m → (3 ≤ m) × (m ≤ 10)
-  by-judge m e =
-      let t = of-all of-judge m (refusals q) (refused-by-table (d .current) q m e) (rows-small q) in
-      (leb-true 3 m (left (leb 3 m) (leb m 10) t), leb-true m 10 (right (leb 3 m) (leb m 10) t))
+  -- the remainder by which the byte is defined takes nothing away
+  refused-with : {o : Outcome House Change} → Listed q n → o .desk ≡ d → Refusal d q o n
+  refused-with l same =
+      let b = from-3-to-12 q n l in
+      record { listed = l; byte = ap (λ (x : ℕ). x ∷ []) (omega (arith, b .0, b .1)); unchanged = same }
 
-  spent : (b : Bool) → issued deskRules d (changeOf q) (cond b Spent (Number (d .last + 1))) .answer ≡ Answer.Refused n
-      → Refusal d (issued deskRules d (changeOf q) (cond b Spent (Number (d .last + 1)))) n
-  spent true e = let z : 11 ≡ n = cc in below d _ n (omega arith) (omega arith) refl
-  spent false e = let z : _≡_ {A = ℕ} 0 1 = cc in absurd (omega arith)
-
-  none-left : takeBack deskRules d .answer ≡ Answer.Refused n → Refusal d (takeBack deskRules d) n
-  unfolding takeBack
-  none-left = go (eqb (length (d .log)) 0)
+  pub refusal : step deskRules d q .answer ≡ Refused n → Refusal d q (step deskRules d q) n
+  refusal e = go (way d q)
     where
-      back : Outcome House Change
-      back = outcome (record { base = d .base; log = take (length (d .log) - 1) (d .log); current = after deskRules (d .base) (take (length (d .log) - 1) (d .log)); last = d .last }) Answer.Granted
+      given : {o : Outcome House Change} → step deskRules d q ≡ o → o .answer ≡ Refused n
+      given s = sym (ap (λ (o : Outcome House Change). o .answer) s) ∙ e
 
-      go : (b : Bool) → cond b (outcome d (Answer.Refused 12)) back .answer ≡ Answer.Refused n → Refusal d (cond b (outcome d (Answer.Refused 12)) back) n
-      go true e = let z : 12 ≡ n = cc in below d _ n (omega arith) (omega arith) refl
-      go false e = let z : _≡_ {A = ℕ} 0 1 = cc in absurd (omega arith)
+      left-so : {o : Outcome House Change} → step deskRules d q ≡ o → step deskRules d q .desk ≡ o .desk
+      left-so s = ap (λ (o : Outcome House Change). o .desk) s
 
-  by-ruling : (r : Ruling) → rulingOf (d .current) q ≡ r → ruled deskRules d (verdictOf q r) .answer ≡ Answer.Refused n
-      → Refusal d (ruled deskRules d (verdictOf q r)) n
-  by-ruling (Ruling.Refused m) e a =
-      let z : m ≡ n = cc in
-      let b = by-judge m e in
-      below d _ n (omega (arith, b .0)) (omega (arith, b .1)) refl
-  by-ruling Pass e a = let z : _≡_ {A = ℕ} 0 1 = cc in absurd (omega arith)
-  by-ruling Keep e a = let z : _≡_ {A = ℕ} 0 1 = cc in absurd (omega arith)
-  by-ruling KeepNumbered e a = spent (eqb (d .last) top) a
-  by-ruling Ruling.TakeBack e a = none-left a
+      go : Way d q (step deskRules d q) → Refusal d q (step deskRules d q) n
+      go (by-rule m r s) =
+          let z : m ≡ n = cc (given s) in
+          refused-with (in-row (refused-by-table (d .current) q n (r ∙ ap Ruling.Refused z))) (left-so s)
+      go (Way.no-number a k l s) = let z : 11 ≡ n = cc (given s) in refused-with (no-number (sym z) k) (left-so s)
+      go (Way.no-change a k l s) = let z : 12 ≡ n = cc (given s) in refused-with (no-change (sym z) k) (left-so s)
+      go (read a k s) = let g = given s in differ cc
+      go (plain a k s) = let g = given s in differ cc
+      go (with-number a k l s) = let g = given s in differ cc
+      go (back a k l t) = let g : Granted ≡ Refused n = sym (t .answer) ∙ e in differ cc
 
-  pub refusal : step deskRules d q .answer ≡ Answer.Refused n → Refusal d (step deskRules d q) n
-  unfolding step
-  refusal = by-ruling (rulingOf (d .current) q) refl
+-- "13 is never written", nor 1 or 2 to a request
+to-request : (d : Desk House Change) (q : Request) → ToRequest (step deskRules d q .answer)
+to-request d q = record { not-1 = λ e. none 1 e (omega arith); not-2 = λ e. none 2 e (omega arith); not-13 = λ e. over 13 e (omega arith) }
+  where
+    none : (n : ℕ) → step deskRules d q .answer ≡ Refused n → n < 3 → ⊥
+    none n e l = absurd (omega (arith, from-3-to-12 q n (refusal d q n e .listed) .0))
+
+    over : (n : ℕ) → step deskRules d q .answer ≡ Refused n → 12 < n → ⊥
+    over n e l = absurd (omega (arith, from-3-to-12 q n (refusal d q n e .listed) .1))
+
+pub never-13 : (d : Desk House Change) (qs : List Request) → Each ToRequest (answers deskRules d qs)
+never-13 d [] = tt
+never-13 d (q ∷ qs) = (to-request d q, never-13 (step deskRules d q .desk) qs)

@@ -7,10 +7,12 @@ use native.Mathlib.Omega.{arith}
 use native.Mathlib.Nat.{add-zero, zero-add, add-suc, suc-add}
 use native.Mathlib.Decide.{ℕ-discrete}
 use lib.Dec.{eqb}
-use lib.ListN.{length, getD, set, List·getD-map}
+use lib.ListN.{length, take, getD, set, List·getD-map}
 use lib.Seq.{getD-set-same, getD-set-other}
-use Rattle.records.specs.Lists.{any, all, allFrom, count, keep, mapFrom}
-use Rattle.promises.proofs.Bools.{clash, either, second, Is, equal, said, _and_}
+use Rattle.records.specs.Lists.{any, all, allFrom, count, filter, mapFrom}
+use Rattle.promises.specs.Lists.{Each, Once}
+use Rattle.promises.specs.Facts.{Is}
+use Rattle.promises.proofs.Bools.{clash, either, second, equal, said, _and_}
 
 -- ---- what stands at a place
 module _ {A : Type 0} (d : A) where
@@ -37,10 +39,6 @@ length-mapFrom f n [] = refl
 length-mapFrom f n (x ∷ xs) = ap suc (length-mapFrom f (suc n) xs)
 
 -- ---- a rule of each
-abbrev pub Each : {A : Type 0} → (A → Type 0) → List A → Type 0
-Each P [] = Unit {0}
-Each P (x ∷ xs) = P x × Each P xs
-
 module _ {A : Type 0} where
   pub each-imp : (P Q : A → Type 0) (l : List A) → ((x : A) → P x → Q x) → Each P l → Each Q l
   each-imp P Q [] f e = tt
@@ -64,11 +62,11 @@ module _ {A : Type 0} where
   each-map P Q f [] g e = tt
   each-map P Q f (x ∷ xs) g e = (g x (e .0), each-map P Q f xs g (e .1))
 
-  pub each-keep : (P Q : A → Type 0) (p : A → Bool) (l : List A) → ((x : A) → p x ≡ true → P x → Q x) → Each P l → Each Q (keep p l)
+  pub each-keep : (P Q : A → Type 0) (p : A → Bool) (l : List A) → ((x : A) → p x ≡ true → P x → Q x) → Each P l → Each Q (filter p l)
   each-keep P Q p [] f e = tt
   each-keep P Q p (x ∷ xs) f e = go (each-keep P Q p xs f (e .1)) (p x) refl
     where
-      go : Each Q (keep p xs) → (b : Bool) → p x ≡ b → Each Q (cond b (x ∷ keep p xs) (keep p xs))
+      go : Each Q (filter p xs) → (b : Bool) → p x ≡ b → Each Q (cond b (x ∷ filter p xs) (filter p xs))
       go r true q = (f x q (e .0), r)
       go r false q = r
 
@@ -76,11 +74,22 @@ module _ {A : Type 0} where
   each-more P [] x e p = (p, tt)
   each-more P (y ∷ ys) x e p = (e .0, each-more P ys x (e .1) p)
 
-  pub length-keep : (p : A → Bool) (l : List A) → length (keep p l) ≤ length l
+  pub each-take : (P : A → Type 0) (n : ℕ) (l : List A) → Each P l → Each P (take n l)
+  each-take P zero l e = tt
+  each-take P (suc n) [] e = tt
+  each-take P (suc n) (x ∷ xs) e = (e .0, each-take P n xs (e .1))
+
+  -- one of them made anew of itself
+  pub each-anew : (P : A → Type 0) (f : A → A) → ((x : A) → P x → P (f x)) → (d : A) (l : List A) (i : ℕ) → Each P l → Each P (set l i (f (getD l i d)))
+  each-anew P f k d [] i e = tt
+  each-anew P f k d (x ∷ xs) zero e = (k x (e .0), e .1)
+  each-anew P f k d (x ∷ xs) (suc i) e = (e .0, each-anew P f k d xs i (e .1))
+
+  pub length-keep : (p : A → Bool) (l : List A) → length (filter p l) ≤ length l
   length-keep p [] = omega arith
   length-keep p (x ∷ xs) = go (length-keep p xs) (p x)
     where
-      go : length (keep p xs) ≤ length xs → (b : Bool) → length (cond b (x ∷ keep p xs) (keep p xs)) ≤ suc (length xs)
+      go : length (filter p xs) ≤ length xs → (b : Bool) → length (cond b (x ∷ filter p xs) (filter p xs)) ≤ suc (length xs)
       go h true = omega arith
       go h false = omega arith
 
@@ -177,12 +186,6 @@ module _ {A : Type 0} (d : A) where
           later zero h = clash h q
           later (suc i) h = record { where-it-is = i; holds = h }
 
-  -- at one place, and at no other
-  pub record Once (p : A → Bool) (l : List A) : Type 0 where
-    pub at-place : ℕ
-    pub holds : p (getD l at-place d) ≡ true
-    pub only : (j : ℕ) → p (getD l j d) ≡ true → j ≡ at-place
-
   module _ (p : A → Bool) (z : p d ≡ false) where
     none-count : (l : List A) → ((i : ℕ) → p (getD l i d) ≡ false) → count p l ≡ 0
     none-count [] f = refl
@@ -198,11 +201,11 @@ module _ {A : Type 0} (d : A) where
         go false q r f zero = q
         go false q r f (suc i) = f r i
 
-    count-one : (l : List A) → count p l ≡ 1 → Once p l
+    count-one : (l : List A) → count p l ≡ 1 → Once d p l
     count-one [] e = absurd (omega arith)
     count-one (x ∷ xs) e = go (p x) refl e (count-one xs)
       where
-        go : (b : Bool) → p x ≡ b → cond b (suc (count p xs)) (count p xs) ≡ 1 → (count p xs ≡ 1 → Once p xs) → Once p (x ∷ xs)
+        go : (b : Bool) → p x ≡ b → cond b (suc (count p xs)) (count p xs) ≡ 1 → (count p xs ≡ 1 → Once d p xs) → Once d p (x ∷ xs)
         go true q r f = record { at-place = 0; holds = q; only = only }
           where
             only : (j : ℕ) → p (getD (x ∷ xs) j d) ≡ true → j ≡ 0
@@ -230,5 +233,5 @@ module _ {A : Type 0} (d : A) where
         go true q r = absurd (omega (arith, f 0 q))
         go false q r = r
 
-    pub once : (l : List A) → Is (eqb (count p l) 1) (Once p l)
+    pub once : (l : List A) → Is (eqb (count p l) 1) (Once d p l)
     once l = said equal (count-one l) (λ o. one-count l (o .at-place) (o .holds) (o .only))

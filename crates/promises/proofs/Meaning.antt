@@ -8,20 +8,23 @@ use native.Mathlib.Decide.{ℕ-discrete}
 use lib.Dec.{eqb}
 use borrow.Author.Tests.{ne-eqb}
 use lib.ListN.{length}
-use Rattle.records.specs.Lists.{any, all, count}
-use Rattle.records.specs.Places.{has, with, only, within}
+use Rattle.label.specs.Labels.{contains}
+use Rattle.records.specs.Lists.{any, all}
+use Rattle.records.specs.Places.{has, with, only}
 use Rattle.records.specs.House.{House, noUser, noScript, noSession, house, noPlace, staff, outsider, user, script, session}
-use Rattle.records.specs.Lookups.{ofScript, placed}
-use Rattle.promises.specs.Rules.{_implies_, roomNumbers, isPlace, places, roomsThere, sessionThere, originThere, draftThere, administered, staffIfTrusted, ledByOne, bareIfOutsider, ownedWell, inItsRoom, atHomeOrOneRoom, hasDraft, ascending, labelFits, userFits, scriptFits, sessionFits, bounded, namedThere, rules}
+use Rattle.records.specs.Lookups.{ofScript}
 use Rattle.records.specs.declared.User.{User}
 use Rattle.records.specs.declared.Script.{Script}
 use Rattle.records.specs.declared.Session.{Session}
 use Rattle.records.specs.declared.Draft.{Draft}
 use Rattle.records.proofs.Places.{has-none, has-with}
-use Rattle.promises.proofs.Bools.{clash, second, left, right, Is, itself, fails, equal, unequal, less, atMost, said, _and_, _else_, _then_}
-use Rattle.promises.proofs.Lists.{Each, each-imp, each-both, each-is, everywhere, places-are, Somewhere, somewhere, once}
-use Rattle.promises.proofs.Sets.{Among, among, RoomNumber, room-number, SomeRoom, rooms-all, rooms-any}
-use Rattle.promises.proofs.Rules.{LabelFits, zero-fits, Place, Bare, Administered, Led, HousePlaces, with-house, one-room, Filed, Ascending, Rules}
+use Rattle.promises.specs.Rules.{_implies_, roomNumbers, isPlace, places, roomsThere, sessionThere, originThere, draftThere, administered, staffIfTrusted, ledByOne, bareIfOutsider, ownedWell, inItsRoom, atHomeOrOneRoom, hasDraft, ascending, labelFits, userFits, scriptFits, sessionFits, bounded, namedThere, rules}
+use Rattle.promises.specs.Facts.{Is, Among, RoomNumber, SomeRoom, LabelFits, Place, Bare, Administered, Led, HousePlaces, with-house, one-room, Filed, Ascending, Rules}
+use Rattle.promises.specs.Lists.{Each}
+use Rattle.promises.proofs.Bools.{clash, second, left, right, itself, fails, equal, unequal, less, atMost, said, _and_, _else_, _then_}
+use Rattle.promises.proofs.Lists.{each-imp, each-both, each-is, everywhere, places-are, Somewhere, somewhere, once}
+use Rattle.promises.proofs.Sets.{among, room-number, rooms-all, rooms-any}
+use Rattle.promises.proofs.Parts.{zero-fits}
 
 label-is : (level c : ℕ) → Is (labelFits level c) (LabelFits level c)
 label-is level c = said (atMost and less) (λ p. record { level-fits = p .0; categories-fit = p .1 }) (λ f. (f .level-fits, f .categories-fit))
@@ -126,7 +129,7 @@ session-there h x = itself then (itself and (itself then place-is h (x .place)))
 
 abbrev Owned : User → Session → Type 0
 Owned o x = (((x .place ≡ house → o .sort ≡ staff) × ((x .place ≡ house → ⊥) → has (o .rooms) (x .place) ≡ true)) × (x .level ≤ o .level))
-    × (within (x .categories) (o .categories) ≡ true)
+    × (contains (o .categories) (x .categories) ≡ true)
 
 owned-is : (o : User) (x : Session) → Is (x .writes implies ownedWell o x) (x .writes ≡ true → Owned o x)
 owned-is o x = itself then ((equal then equal) and (unequal then itself) and atMost and itself)
@@ -258,10 +261,9 @@ told-is : (h : House) (last : ℕ) → Is (rules h last) (Told h last)
 unfolding rules
 told-is h last = said
     (bounded-is h last and named-is h and administered-is h
-    and everywhere noUser staffIfTrusted StaffOnly staff-is ((λ k. refl), (λ _. refl)) (h .users)
+    and everywhere noUser staffIfTrusted StaffOnly staff-is ((λ k. clash k refl), (λ _. refl)) (h .users)
     and led-is h
-    and everywhere noUser bareIfOutsider OutsiderBare outsider-is
-    (λ _. record { level-zero = refl; categories-zero = refl; no-room = refl }) (h .users)
+    and everywhere noUser bareIfOutsider OutsiderBare outsider-is (λ e. absurd (omega (arith, e))) (h .users)
     and everywhere noSession (λ s. s .writes implies ownedWell (user h (s .owner)) s) (λ s. s .writes ≡ true → Owned (user h (s .owner)) s)
     (λ s. owned-is (user h (s .owner)) s) (λ k. clash k refl) (h .sessions)
     and each-is (inItsRoom h) (RoomDraft h)

@@ -1,19 +1,15 @@
 -- "draft numbers from 1 to the counter, no two alike": what the ascending order of the live drafts says.
-use Prim.Native.Nat.{ℕ, zero, suc, _≤_, _<_}
+use Prim.Native.Nat.{ℕ, zero, suc, _<_}
 use mathlib.Core.Path.{_≡_, refl, ap}
 use mathlib.Core.Bool.{true}
 use mathlib.Core.List.{List, [], _∷_}
 use native.Mathlib.Omega.{arith}
 use lib.ListN.{length, getD}
 use Rattle.records.specs.House.{House, noDraft, draftAt}
-use Rattle.promises.specs.Rules.{rules}
 use Rattle.records.specs.declared.Draft.{Draft}
-use Rattle.promises.proofs.Rules.{Ascending}
+use Rattle.promises.specs.Rules.{rules}
+use Rattle.promises.specs.Facts.{Ascending, Between}
 use Rattle.promises.proofs.Meaning.{rules-are}
-
-pub record Between (low n high : ℕ) : Type 0 where
-  pub above : low < n
-  pub up-to : n ≤ high
 
 between : (n last : ℕ) (l : List Draft) → Ascending n last l → (i : ℕ) → i < length l → Between n (getD l i noDraft .number) last
 between n last [] a i h = absurd (omega arith)
@@ -37,4 +33,4 @@ module _ (h : House) (last : ℕ) (meets : rules h last ≡ true) where
 
   -- "no two alike"
   pub no-two-alike : (i j : ℕ) → i < length (h .drafts) → j < length (h .drafts) → draftAt h i .number ≡ draftAt h j .number → i ≡ j
-  no-two-alike = alike 0 last (h .drafts) (rules-are h last .says meets .texts .ascending)
+  no-two-alike = alike _ last (h .drafts) (rules-are h last .says meets .texts .ascending)

@@ -6,13 +6,14 @@ use Prim.Native.Nat.{ℕ, _+_, _-_, _<_}
 use native.Mathlib.Omega.{arith}
 use lib.Dec.{eqb}
 use lib.ListN.{length, take}
+use Rattle.request.proofs.Absurd.{differ}
 use Rattle.counter.specs.Numbers.{top, nextAfter}
 use Rattle.counter.specs.declared.Next.{Next}
 use Rattle.counter.specs.declared.Next.the-variants.{Number, Spent}
 use Rattle.history.specs.declared.Answer.{Answer}
 use Rattle.history.specs.declared.Answer.the-variants.{Granted, Refused}
-use Rattle.history.specs.Machine.{Verdict, refuse, pass, make, issue, undo, Rulebook, Desk, opened, after, step, run, answers}
-use Rattle.promises.specs.Book.{Book, Entry, entry, blank, recordsOf, enter, numbered, noted, note, bookAfter, bookAnswers, numbers, Rising}
+use Rattle.history.specs.Machine.{Verdict, refuse, pass, make, issue, undo, Rulebook, Desk, opened, changed, step, run, answers}
+use Rattle.promises.specs.Book.{Book, Entry, entry, blank, recordsOf, enter, struck, enterNumbered, noted, note, bookAfter, bookAnswers, numbers, Rising}
 use Rattle.promises.proofs.Agrees.{Agrees, opened-agrees, step-same}
 
 -- ---- numbers: what follows the last number is larger
@@ -20,7 +21,7 @@ next-larger : (last n : ℕ) → nextAfter last ≡ Number n → last < n
 next-larger last n e = by-top (eqb last top) e
   where
     by-top : (t : Bool) → cond t Spent (Number (last + 1)) ≡ Number n → last < n
-    by-top true e = let z : _≡_ {A = ℕ} 0 1 = cc in absurd (omega arith)
+    by-top true e = differ cc
     by-top false e = let m : last + 1 ≡ n = cc in omega arith
 
 module _ {S C Q : Type 0} (R : Rulebook S C Q) where
@@ -36,7 +37,7 @@ module _ {S C Q : Type 0} (R : Rulebook S C Q) where
       (λ i. s .answers i ∷ run-answers (step R d q .desk) (note R b q .book) (s .agrees) qs i)
 
   -- "the records equal those got by starting empty and applying, in order, every granted change that wasn't taken back, each with the draft number it received"
-  pub records-are-survivors : (last : ℕ) (qs : List Q) → run R (opened R last) qs .current ≡ after R (R .none) (bookAfter R (blank last) qs .survivors)
+  pub records-are-survivors : (last : ℕ) (qs : List Q) → run R (opened R last) qs .current ≡ changed R (R .none) (bookAfter R (blank last) qs .survivors)
   records-are-survivors last qs = run-agrees (opened R last) (blank last) (opened-agrees R last) qs .now
 
   -- the book gives every answer that the desk gives
@@ -51,17 +52,15 @@ module _ {S C Q : Type 0} (R : Rulebook S C Q) where
   rising-step b (make c) more later = later (enter R b c (b .last))
   rising-step b (issue f) more later = by-next (nextAfter (b .last)) refl
     where
-      by-next : (x : Next) → nextAfter (b .last) ≡ x → Rising (b .last) (numbers (numbered R b f x .answer ∷ more (numbered R b f x .book)))
+      by-next : (x : Next) → nextAfter (b .last) ≡ x → Rising (b .last) (numbers (enterNumbered R b f x .answer ∷ more (enterNumbered R b f x .book)))
       by-next (Number n) e = (next-larger (b .last) n e, later (enter R b (f n) n))
       by-next Spent e = later b
   rising-step b undo more later = by-count (eqb (b .count) 0)
     where
-      struck : Entry C
-      struck = entry (record { survivors = take (length (b .survivors) - 1) (b .survivors); count = b .count - 1; last = b .last }) Granted
-
-      by-count : (t : Bool) → Rising (b .last) (numbers (cond t (entry b (Refused 12)) struck .answer ∷ more (cond t (entry b (Refused 12)) struck .book)))
+      by-count : (t : Bool)
+          → Rising (b .last) (numbers (cond t (entry b (Refused 12)) (entry (struck R b) Granted) .answer ∷ more (cond t (entry b (Refused 12)) (entry (struck R b) Granted) .book)))
       by-count true = later b
-      by-count false = later (struck .book)
+      by-count false = later (struck R b)
 
   book-rising : (b : Book C) (qs : List Q) → Rising (b .last) (numbers (bookAnswers R b qs))
   unfolding note

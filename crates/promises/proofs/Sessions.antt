@@ -1,40 +1,19 @@
 -- One session anew: Open and Kill keep the record rules.
-use Prim.Native.Nat.{ℕ, _%_, _≤_, _<_}
+use Prim.Native.Nat.{ℕ, _≤_, _<_}
 use mathlib.Core.Path.{_≡_, refl, _∙_}
-use mathlib.Core.Bool.{true, _&&_}
+use mathlib.Core.Bool.{true}
 use native.Mathlib.Omega.{arith}
-use native.Mathlib.Nat.{mod-eq-of-lt}
-use lib.Dec.{eqb, leb}
-use lib.Bits.{bitAnd}
 use lib.ListN.{length-set}
-use borrow.Author.Tests.{leb-true}
-use Rattle.records.specs.Places.{has, within}
+use Rattle.records.specs.Places.{has}
 use Rattle.records.specs.House.{House, noSession, house, staff, user, putSession}
 use Rattle.records.specs.declared.Session.{Session}
+use Rattle.records.proofs.Places.{has-contains}
 use Rattle.effects.specs.Elements.{writing, reading}
-use Rattle.conditions.specs.Conditions.{covers}
-use Rattle.promises.proofs.Bools.{clash, left, right}
+use Rattle.conditions.specs.Labels.{Covered}
+use Rattle.promises.specs.Facts.{LabelFits, Writing, Seated, Rules}
+use Rattle.promises.proofs.Bools.{clash}
 use Rattle.promises.proofs.Lists.{at-set}
-use Rattle.promises.proofs.Rules.{LabelFits, Writing, Seated, Rules}
 use Rattle.promises.proofs.Parts.{place-house, place-room, none-seated}
-
--- ---- of labels that fit their bytes: one covers another where its level is no lower and its categories contain the other's
-pub record Covers (level c level′ c′ : ℕ) : Type 0 where
-  pub no-higher : level′ ≤ level
-  pub contained : within c′ c ≡ true
-
-pub covers-are : (level c level′ c′ : ℕ) → LabelFits level c → LabelFits level′ c′ → covers level c level′ c′ ≡ true → Covers level c level′ c′
-unfolding within
-covers-are level c level′ c′ f g h =
-    let a : level % 256 ≡ level = mod-eq-of-lt (omega (arith, f .level-fits)) in
-    let b : c % 65536 ≡ c = mod-eq-of-lt (f .categories-fit) in
-    let d : level′ % 256 ≡ level′ = mod-eq-of-lt (omega (arith, g .level-fits)) in
-    let e : c′ % 65536 ≡ c′ = mod-eq-of-lt (g .categories-fit) in
-    let k : (leb level′ level && eqb (bitAnd c c′) c′) ≡ true = rw (a, b, d, e) at h in
-    record {
-      no-higher = leb-true level′ level (left (leb level′ level) (eqb (bitAnd c c′) c′) k);
-      contained = right (leb level′ level) (eqb (bitAnd c c′) c′) k;
-    }
 
 module _ (h : House) (last : ℕ) (R : Rules h last) (x : ℕ) (small : x < 64) where
   put-session : (v : Session) → Seated (h .rooms) (h .users) v → Rules (putSession h x v) last
@@ -62,7 +41,7 @@ module _ (h : House) (last : ℕ) (R : Rules h last) (x : ℕ) (small : x < 64) 
     open-at place w = put-session (writing u level c place)
         (record { absent = λ k. clash refl k; label = label; owner-there = λ _. hu; writing = λ _. w; reading = λ _ k. clash refl k })
 
-    module _ (opens : Covers (user h u .level) (user h u .categories) level c) where
+    module _ (opens : Covered (user h u .level) (user h u .categories) level c) where
       -- ---- 10 Open RW in room
       pub open-in-room : (room : ℕ) → 1 ≤ room → has (h .rooms) room ≡ true → has (user h u .rooms) room ≡ true
           → Rules (putSession h x (writing u level c room)) last
@@ -71,7 +50,7 @@ module _ (h : House) (last : ℕ) (R : Rules h last) (x : ℕ) (small : x < 64) 
         house-staff = λ e. absurd (omega arith);
         room-member = λ _. member;
         level-within = opens .no-higher;
-        categories-within = opens .contained;
+        categories-within = has-contains (user h u .categories) c (opens .contained);
       })
 
       -- ---- 11 Open RW in house
@@ -81,5 +60,5 @@ module _ (h : House) (last : ℕ) (R : Rules h last) (x : ℕ) (small : x < 64) 
         house-staff = λ _. is-staff;
         room-member = λ n. absurd (n refl);
         level-within = opens .no-higher;
-        categories-within = opens .contained;
+        categories-within = has-contains (user h u .categories) c (opens .contained);
       })

@@ -9,19 +9,18 @@ use native.Mathlib.Nat.{div-eq-of-lt}
 use lib.Dec.{eqb}
 use lib.Pow.{pow-mono}
 use borrow.Author.Tests.{eqb-true, eq-eqb, ne-eqb}
-use Rattle.records.specs.Places.{has, with, without, only, within}
-use Rattle.promises.specs.Rules.{roomNumbers}
+use Rattle.label.specs.Labels.{contains}
+use Rattle.records.specs.Places.{has, with, without, only}
 use Rattle.records.specs.Lists.{any, all}
-use Rattle.records.proofs.Places.{has-same, has-none, has-with, has-without, has-only, without-only, within-has, has-within}
-use Rattle.promises.proofs.Bools.{clash, Is, said, itself}
-use Rattle.promises.proofs.Lists.{Each, each-is, any-one, any-none}
+use Rattle.records.proofs.Places.{has-same, has-none, has-with, has-without, has-only, without-only, contains-has, has-contains}
+use Rattle.promises.specs.Rules.{roomNumbers}
+use Rattle.promises.specs.Lists.{Each}
+use Rattle.promises.specs.Facts.{Is, Among, RoomNumber, SomeRoom}
+use Rattle.promises.proofs.Bools.{clash, said, itself}
+use Rattle.promises.proofs.Lists.{each-is, any-one, any-none}
 
--- each place of s is one of t
-abbrev pub Among : ℕ → ℕ → Type 0
-Among s t = (p : ℕ) → has s p ≡ true → has t p ≡ true
-
-pub among : (s t : ℕ) → Is (within s t) (Among s t)
-among s t = record { says = within-has s t; shown = has-within s t }
+pub among : (s t : ℕ) → Is (contains t s) (Among s t)
+among s t = record { says = contains-has t s; shown = has-contains t s }
 
 pub some : (s p : ℕ) → has s p ≡ true → s ≡ 0 → ⊥
 some s p h e = clash h (rw e (has-none p))
@@ -97,10 +96,6 @@ without-from-only s r p small smaller e n = go (ℕ-discrete r p)
             nobody false z = z
 
 -- ---- "Rooms 1..16."
-pub record RoomNumber (r : ℕ) : Type 0 where
-  pub low : 1 ≤ r
-  pub high : r ≤ 16
-
 no-house : has 0x1FFFE 0 ≡ false
 unfolding has
 no-house = refl
@@ -146,11 +141,6 @@ pub rooms-all : (t : ℕ → Bool) (P : ℕ → Type 0) → ((r : ℕ) → Is (t
 rooms-all t P s = said (each-is t P s roomNumbers)
     (λ e r n. each-up P 1 16 e r (n .low) (omega (arith, n .high)))
     (λ f. up-each P 1 16 (λ r l m. f r (record { low = l; high = omega arith })))
-
-pub record SomeRoom (P : ℕ → Type 0) : Type 0 where
-  pub room : ℕ
-  pub number : RoomNumber room
-  pub rule : P room
 
 pub rooms-any : (t : ℕ → Bool) (P : ℕ → Type 0) → ((r : ℕ) → Is (t r) (P r)) → Is (any t roomNumbers) (SomeRoom P)
 rooms-any t P s = record { says = found; shown = λ e. go (any t roomNumbers) refl e }

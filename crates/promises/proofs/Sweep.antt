@@ -19,10 +19,12 @@ use Rattle.records.specs.declared.Found.the-variants.{At, Nothing}
 use Rattle.records.proofs.Places.{without-zero, without-only}
 use Rattle.effects.specs.Elements.{parted, closes, shuts, shut, unplaced}
 use Rattle.effects.specs.Effects.{sweptDrafts, deserted, sweptScripts, swept, lessOne, removed, disbanded}
+use Rattle.promises.specs.Facts.{RoomNumber, UserFine, People, SessionFine, Seated, HousePlaces, with-house, one-room, DraftFine, Filed, ScriptFine, Ascending, Texts, Rules}
+use Rattle.promises.specs.Lists.{Each}
 use Rattle.promises.proofs.Bools.{clash}
-use Rattle.promises.proofs.Lists.{at-map, at-places, length-mapFrom, Each, each-imp, each-both, each-set, each-map, each-keep, each-any, length-keep}
-use Rattle.promises.proofs.Sets.{without-other, without-old, without-among, both-without, without-from-only, RoomNumber}
-use Rattle.promises.proofs.Rules.{zero-fits, UserFine, People, SessionFine, Seated, HousePlaces, with-house, one-room, DraftFine, Filed, ScriptFine, Ascending, Texts, Rules}
+use Rattle.promises.proofs.Lists.{at-map, at-places, length-mapFrom, each-imp, each-both, each-set, each-map, each-keep, each-any, length-keep}
+use Rattle.promises.proofs.Sets.{without-other, without-old, without-among, both-without, without-from-only}
+use Rattle.promises.proofs.Parts.{zero-fits}
 use Rattle.promises.proofs.Parts.{place-move, led-move, admin-move, stays, session-stays, seats-end}
 use Rattle.promises.proofs.Drafts.{ascending-keep, ascending-map, ascending-set}
 use Rattle.promises.proofs.Texts.{small-origin, draft-at, put-draft}
@@ -136,7 +138,7 @@ remove h last R s v room number = go (findDraft h s v) refl
         each = R .texts .each;
         filed = each-set (λ d. placed d ≡ true → Filed (h .rooms) (h .scripts) d) (h .drafts) i (unplaced room (draftAt h i)) (λ q. clash q k)
             (each-imp (Filed (h .rooms) (h .scripts)) (λ d. placed d ≡ true → Filed (h .rooms) (h .scripts) d) (h .drafts) (λ d f _. f) (R .texts .filed));
-        ascending = ascending-set 0 last (h .drafts) i (unplaced room (draftAt h i)) refl (R .texts .ascending);
+        ascending = ascending-set _ last (h .drafts) i (unplaced room (draftAt h i)) refl (R .texts .ascending);
         at-most = rw (length-set (h .drafts) i (unplaced room (draftAt h i))) (R .texts .at-most);
       });
       counter = R .counter;

@@ -21,10 +21,11 @@ use Rattle.records.specs.declared.Found.the-variants.{At, Nothing}
 use Rattle.records.proofs.Lookups.{found-draft, found-is, found-below, no-draft}
 use Rattle.effects.specs.Elements.{createdBy, draftOf, placedAt}
 use Rattle.effects.specs.Effects.{onDraft}
+use Rattle.promises.specs.Facts.{Among, Place, HousePlaces, with-house, one-room, DraftFine, Filed, ScriptFine, Texts, Rules}
+use Rattle.promises.specs.Lists.{Each}
 use Rattle.promises.proofs.Bools.{clash, right}
-use Rattle.promises.proofs.Lists.{at-set, Each, each-imp, each-at, each-set, each-more, any-more, any-last, any-set}
-use Rattle.promises.proofs.Sets.{Among, some, with-new, with-old, with-among, only-itself, only-one, room-number}
-use Rattle.promises.proofs.Rules.{Place, HousePlaces, with-house, one-room, DraftFine, Filed, ScriptFine, Texts, Rules}
+use Rattle.promises.proofs.Lists.{at-set, each-imp, each-at, each-set, each-more, any-more, any-last, any-set}
+use Rattle.promises.proofs.Sets.{some, with-new, with-old, with-among, only-itself, only-one, room-number}
 use Rattle.promises.proofs.Parts.{place-house, place-room, place-cases, place-small}
 use Rattle.promises.proofs.Drafts.{ascending-set, ascending-more}
 
@@ -37,7 +38,6 @@ module _ (h : House) (last : ℕ) (R : Rules h last) where
 
   -- ---- the draft v of script s, which stands in place i
   pub record Draft-at (s v i : ℕ) : Type 0 where
-    pub below : i < length (h .drafts)
     pub of-script : draftAt h i .script ≡ s
     pub fine : DraftFine (h .rooms) (script h (draftAt h i .script)) (draftAt h i)
 
@@ -46,7 +46,6 @@ module _ (h : House) (last : ℕ) (R : Rules h last) where
       let d = draftAt h i in
       let b = found-below h s v i e in
       record {
-        below = b;
         of-script = eqb-true (d .script) s (right (eqb (d .number) v) (eqb (d .script) s) (found-is h s v i e));
         fine = each-at (Filed (h .rooms) (h .scripts)) (h .drafts) noDraft i b (R .texts .filed);
       }
@@ -62,7 +61,7 @@ module _ (h : House) (last : ℕ) (R : Rules h last) where
       each = R .texts .each;
       drafted = λ j k. any-set (ofScript j) (h .drafts) noDraft i d (rw s) ∙ R .texts .drafted j k;
       filed = each-set (Filed (h .rooms) (h .scripts)) (h .drafts) i d f (R .texts .filed);
-      ascending = ascending-set 0 last (h .drafts) i d n (R .texts .ascending);
+      ascending = ascending-set _ last (h .drafts) i d n (R .texts .ascending);
       at-most = rw (length-set (h .drafts) i d) (R .texts .at-most);
     };
     counter = R .counter;
@@ -125,7 +124,7 @@ module _ (h : House) (last : ℕ) (R : Rules h last) where
       each = each;
       drafted = drafted;
       filed = each-more (Filed (h .rooms) ss) (h .drafts) x old new;
-      ascending = ascending-more 0 last (h .drafts) x (omega arith) (omega arith) (R .texts .ascending);
+      ascending = ascending-more _ last (h .drafts) x (omega arith) (omega arith) (R .texts .ascending);
       at-most = omega (arith, length-append (h .drafts) (x ∷ []));
     }
 

@@ -11,18 +11,25 @@ use Rattle.counter.specs.declared.Next.{Next}
 use Rattle.counter.specs.declared.Next.the-variants.{Number, Spent}
 use Rattle.history.specs.declared.Answer.{Answer}
 use Rattle.history.specs.declared.Answer.the-variants.{Granted, Refused}
-use Rattle.history.specs.Machine.{Verdict, refuse, pass, make, issue, undo, Rulebook, Desk, Outcome, outcome, opened, after, takeBack, ruled, step, run, answers}
-use Rattle.promises.specs.Book.{Book, Entry, entry, blank, recordsOf, numbered, noted, note, bookAfter, bookAnswers, Event, events, survive, keptCount, Shows}
+use Rattle.history.specs.Machine.{Verdict, refuse, pass, make, issue, undo, Rulebook, Desk, outcome, opened, changed, takeBack, ruled, step, run, answers}
+use Rattle.promises.specs.Back.{TakenBack}
+use Rattle.promises.specs.Book.{Book, Entry, entry, blank, recordsOf, struck, enterNumbered, noted, note, bookAfter, bookAnswers, Event, events, survive, keptCount, Shows}
 use Rattle.promises.proofs.Agrees.{opened-agrees}
 use Rattle.promises.proofs.Runs.{run-agrees, records-are-survivors, answers-are-the-books}
 
--- what a granted take-back leaves
-pub record TakenBack {S C Q : Type 0} (R : Rulebook S C Q) (d : Desk S C) (o : Outcome S C) : Type 0 where
-  pub answer : o .answer ≡ Granted
-  pub log : o .desk .log ≡ take (length (d .log) - 1) (d .log)
-  pub base : o .desk .base ≡ d .base
-  pub last : o .desk .last ≡ d .last
-  pub records : o .desk .current ≡ after R (d .base) (take (length (d .log) - 1) (d .log))
+-- ---- a take-back that the rules allow, at any desk
+module _ {S C Q : Type 0} (R : Rulebook S C Q) (d : Desk S C) (q : Q) (allowed : R .judge (d .current) q ≡ undo) where
+  -- where none is kept, it is refused and nothing changes
+  pub none-left : length (d .log) ≡ 0 → step R d q ≡ outcome d (Refused 12)
+  unfolding step takeBack
+  none-left z = ap (ruled R d) allowed ∙ rw (eq-eqb (length (d .log)) 0 z)
+
+  -- else it is granted, the newest kept change goes and no other, and the number stays
+  pub some-left : (length (d .log) ≡ 0 → ⊥) → TakenBack R d (step R d q)
+  unfolding step takeBack
+  some-left n =
+      subst (TakenBack R d) (sym (ap (ruled R d) allowed ∙ rw (ne-eqb (length (d .log)) 0 n)))
+      (record { answer = refl; log = refl; base = refl; last = refl; records = refl })
 
 module _ {S C Q : Type 0} (R : Rulebook S C Q) (f : Q → Answer → Event C) (shows : Shows R f) where
   -- what one entry of the book adds is what its answer shows
@@ -38,13 +45,12 @@ module _ {S C Q : Type 0} (R : Rulebook S C Q) (f : Q → Answer → Event C) (s
     one-shown (make c) e = rw (shows .made (recordsOf R b) q c e) (refl, refl)
     one-shown (issue g) e = by-next (nextAfter (b .last))
       where
-        by-next : (x : Next) → Shown (numbered R b g x)
+        by-next : (x : Next) → Shown (enterNumbered R b g x)
         by-next (Number n) = rw (shows .issued (recordsOf R b) q g n e) (refl, refl)
         by-next Spent = rw (shows .refused q 11) (refl, refl)
     one-shown undo e = by-count (eqb (b .count) 0)
       where
-        by-count : (t : Bool) → Shown (cond t (entry b (Refused 12))
-            (entry (record { survivors = take (length (b .survivors) - 1) (b .survivors); count = b .count - 1; last = b .last }) Granted))
+        by-count : (t : Bool) → Shown (cond t (entry b (Refused 12)) (entry (struck R b) Granted))
         by-count true = rw (shows .refused q 12) (refl, refl)
         by-count false = rw (shows .undone (recordsOf R b) q e) (refl, refl)
 
@@ -60,10 +66,10 @@ module _ {S C Q : Type 0} (R : Rulebook S C Q) (f : Q → Answer → Event C) (s
 
   -- the records are the survivors among the changes that the requests and their answers show
   pub records-are-shown : (last : ℕ) (qs : List Q)
-      → run R (opened R last) qs .current ≡ after R (R .none) (survive [] (events f qs (answers R (opened R last) qs)))
+      → run R (opened R last) qs .current ≡ changed R (R .none) (survive [] (events f qs (answers R (opened R last) qs)))
   records-are-shown last qs =
       records-are-survivors R last qs
-      ∙ ap (after R (R .none)) (all-shown (blank last) qs .0 ∙ ap (λ (l : List Answer). survive [] (events f qs l)) (sym (answers-are-the-books R last qs)))
+      ∙ ap (changed R (R .none)) (all-shown (blank last) qs .0 ∙ ap (λ (l : List Answer). survive [] (events f qs l)) (sym (answers-are-the-books R last qs)))
 
   -- ---- a take-back that the rules allow, after any run: by the kept count that the requests and their answers show
   module _ (last : ℕ) (qs : List Q) (q : Q) where
@@ -78,15 +84,9 @@ module _ {S C Q : Type 0} (R : Rulebook S C Q) (f : Q → Answer → Event C) (s
         sym (run-agrees R (opened R last) (blank last) (opened-agrees R last) qs .count-is)
         ∙ all-shown (blank last) qs .1 ∙ ap (λ (l : List Answer). keptCount 0 (events f qs l)) (sym (answers-are-the-books R last qs))
 
-    -- 12 "the kept count is 0": where none is kept, the take-back is refused and nothing changes
+    -- 12 "the kept count is 0"
     pub none-to-take-back : R .judge (now .current) q ≡ undo → keptNow ≡ 0 → step R now q ≡ outcome now (Refused 12)
-    unfolding step takeBack
-    none-to-take-back e z = ap (ruled R now) e ∙ rw (eq-eqb (length (now .log)) 0 (log-is-count ∙ z))
+    none-to-take-back e z = none-left R now q e (log-is-count ∙ z)
 
-    -- else it is granted, the newest kept change goes and no other, and the number stays
     pub take-back-granted : R .judge (now .current) q ≡ undo → (keptNow ≡ 0 → ⊥) → TakenBack R now (step R now q)
-    unfolding step takeBack
-    take-back-granted e n =
-        let some : length (now .log) ≡ 0 → ⊥ = λ z. n (sym log-is-count ∙ z) in
-        subst (TakenBack R now) (sym (ap (ruled R now) e ∙ rw (ne-eqb (length (now .log)) 0 some)))
-        (record { answer = refl; log = refl; base = refl; last = refl; records = refl })
+    take-back-granted e n = some-left R now q e (λ z. n (sym log-is-count ∙ z))

@@ -37,20 +37,21 @@ module _ {S C Q : Type 0} (R : Rulebook S C Q) where
   enter b c n = record { survivors = b .survivors ++ (c ∷ []); count = min (b .count + 1) 32; last = n }
 
   -- "and falls by one with each granted Take back"; "Take-back removes the newest kept change"; the last number stays
-  abbrev pub strike : Book C → Entry C
-  strike b =
-      cond (eqb (b .count) 0) (entry b (Refused 12))
-      (entry (record { survivors = take (length (b .survivors) - 1) (b .survivors); count = b .count - 1; last = b .last }) Granted)
+  abbrev pub struck : Book C → Book C
+  struck b = record { survivors = take (length (b .survivors) - 1) (b .survivors); count = b .count - 1; last = b .last }
 
-  abbrev pub numbered : Book C → (ℕ → C) → Next → Entry C
-  numbered b f (Number n) = entry (enter b (f n) n) (Numbered n)
-  numbered b f Spent = entry b (Refused 11)
+  abbrev pub strike : Book C → Entry C
+  strike b = cond (eqb (b .count) 0) (entry b (Refused 12)) (entry (struck b) Granted)
+
+  abbrev pub enterNumbered : Book C → (ℕ → C) → Next → Entry C
+  enterNumbered b f (Number n) = entry (enter b (f n) n) (Numbered n)
+  enterNumbered b f Spent = entry b (Refused 11)
 
   abbrev pub noted : Book C → Verdict C → Entry C
   noted b (refuse n) = entry b (Refused n)
   noted b pass = entry b Granted
   noted b (make c) = entry (enter b c (b .last)) Granted
-  noted b (issue f) = numbered b f (nextAfter (b .last))
+  noted b (issue f) = enterNumbered b f (nextAfter (b .last))
   noted b undo = strike b
 
   -- one request: judged against the records that the book says

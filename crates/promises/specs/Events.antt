@@ -1,12 +1,17 @@
--- What a request and its answer show to have happened on this desk. 01: "Kept changes: every granted request but Read and Take back."
+-- A run of requests from an opening, and what a request and its answer show to have happened. 01: "Kept changes: every granted request but Read and Take
+-- back."
+use Prim.Native.Nat.{ℕ}
+use mathlib.Core.List.{List}
 use Rattle.request.specs.declared.Request.{Request}
 use Rattle.effects.specs.declared.Change.{Change}
 use Rattle.judge.specs.Kinds.{grantOf}
 use Rattle.judge.specs.declared.Ruling.{Ruling}
 use Rattle.judge.specs.declared.Ruling.the-variants.{Refused, Pass, Keep, KeepNumbered, TakeBack}
-use Rattle.history.specs.Desk.{changeOf}
+use Rattle.records.specs.House.{House}
+use Rattle.history.specs.Machine.{Desk, opened, run, answers}
+use Rattle.history.specs.Desk.{changeOf, deskRules}
 use Rattle.history.specs.declared.Answer.{Answer}
-use Rattle.promises.specs.Book.{Event, kept, back, nothing}
+use Rattle.promises.specs.Book.{Event, kept, back, nothing, events, keptCount}
 
 -- a plain grant, by what the kind is granted
 abbrev pub grantShows : Request → Ruling → Event Change
@@ -20,3 +25,14 @@ abbrev pub eventOf : Request → Answer → Event Change
 eventOf q Answer.Granted = grantShows q (grantOf q)
 eventOf q (Answer.Numbered n) = kept (changeOf q n)
 eventOf q (Answer.Refused n) = nothing
+
+-- ---- the requests qs from a desk opened with the last number n: the desk then, and the answers
+abbrev pub reachedDesk : ℕ → List Request → Desk House Change
+reachedDesk n qs = run deskRules (opened deskRules n) qs
+
+abbrev pub given : ℕ → List Request → List Answer
+given n qs = answers deskRules (opened deskRules n) qs
+
+-- the kept count by 01's rule, read off requests and answers
+abbrev pub keptNow : ℕ → List Request → ℕ
+keptNow n qs = keptCount 0 (events eventOf qs (given n qs))

@@ -5,7 +5,8 @@ use mathlib.Core.List.{List, [], _∷_}
 use lib.Dec.{eqb, leb, ltb}
 use lib.ListN.{length}
 use Rattle.records.specs.Lists.{any, all, allFrom, count}
-use Rattle.records.specs.Places.{has, with, only, within}
+use Rattle.label.specs.Labels.{contains}
+use Rattle.records.specs.Places.{has, with, only}
 use Rattle.records.specs.House.{House, house, noPlace, staff, outsider, user, script}
 use Rattle.records.specs.Lookups.{ofScript, placed}
 use Rattle.records.specs.declared.User.{User}
@@ -31,7 +32,7 @@ places h = with (h .rooms) house
 
 -- ---- "every record named is there": rooms joined and led; the owner and the place of a session; the origin of a script; the script and the places of a draft
 abbrev pub roomsThere : House → User → Bool
-roomsThere h u = within (u .rooms) (h .rooms) && within (u .leads) (h .rooms)
+roomsThere h u = contains (h .rooms) (u .rooms) && contains (h .rooms) (u .leads)
 
 abbrev pub sessionThere : House → Session → Bool
 sessionThere h s = s .here implies (user h (s .owner) .here && (s .writes implies isPlace h (s .place)))
@@ -40,7 +41,7 @@ abbrev pub originThere : House → Script → Bool
 originThere h s = s .here implies isPlace h (s .origin)
 
 abbrev pub draftThere : House → Draft → Bool
-draftThere h d = script h (d .script) .here && within (d .places) (places h)
+draftThere h d = script h (d .script) .here && contains (places h) (d .places)
 
 abbrev pub namedThere : House → Bool
 namedThere h =
@@ -77,7 +78,7 @@ ownedWell o s =
     (eqb (s .place) house implies eqb (o .sort) staff)
     && (not (eqb (s .place) house) implies has (o .rooms) (s .place))
     && leb (s .level) (o .level)
-    && within (s .categories) (o .categories)
+    && contains (o .categories) (s .categories)
 
 abbrev pub sessionsOwned : House → Bool
 sessionsOwned h = all (λ s. s .writes implies ownedWell (user h (s .owner)) s) (h .sessions)
@@ -111,8 +112,8 @@ abbrev pub ascending : ℕ → ℕ → List Draft → Bool
 ascending above last [] = true
 ascending above last (d ∷ ds) = ltb above (d .number) && leb (d .number) last && ascending (d .number) last ds
 
-abbrev pub numbered : House → ℕ → Bool
-numbered h last = ascending 0 last (h .drafts)
+abbrev pub numbersRise : House → ℕ → Bool
+numbersRise h last = ascending 0 last (h .drafts)
 
 -- ---- "Records and bounds": how many there are, and how large each field may be; a slot that is not used is all zeros
 abbrev pub labelFits : ℕ → ℕ → Bool
@@ -136,7 +137,7 @@ sessionFits s =
 abbrev pub bounded : House → ℕ → Bool
 bounded h last =
     eqb (length (h .users)) 64 && all userFits (h .users)
-    && within (h .rooms) 0x1FFFE
+    && contains 0x1FFFE (h .rooms)
     && eqb (length (h .scripts)) 64 && all scriptFits (h .scripts)
     && eqb (length (h .sessions)) 64 && all sessionFits (h .sessions)
     && leb (length (h .drafts)) 256
@@ -146,4 +147,4 @@ bounded h last =
 unfoldable pub rules : House → ℕ → Bool
 rules h last =
     bounded h last && namedThere h && administered h && staffOnly h && oneLead h && outsidersBare h && sessionsOwned h && roomDrafts h && houseDrafts h
-    && eachDrafted h && eachPlaced h && numbered h last
+    && eachDrafted h && eachPlaced h && numbersRise h last

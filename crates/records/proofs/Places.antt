@@ -1,4 +1,4 @@
--- Sets of places: which places a set has, and what one place more, one place less and a set within another are by that.
+-- Sets of places: which places a set has, and what one place more, one place less and a set that contains another are by that.
 use Prim.Native.Nat.{ℕ, zero, suc, _+_, _-_, _*_, _/_, _%_, _^_, _≤_, _<_, min, max}
 use mathlib.Core.Path.{_≡_, refl, sym, ap, _∙_}
 use mathlib.Core.Bool.{Bool, true, false, cond, not, _&&_, _||_, or-false, or-comm}
@@ -9,7 +9,8 @@ use lib.Dec.{eqb, ltb}
 use lib.Pow.{pow-pos, pow-lt, pow-mono, pow-add}
 use lib.Bits.{bitAnd, bitOr, and-step, or-step, and-le-l, or-shr, and-shr, and-self}
 use borrow.Author.Tests.{eqb-true, eqb-false, eq-eqb, ne-eqb, lt-ltb, le-ltb}
-use Rattle.records.specs.Places.{has, with, without, only, within}
+use Rattle.label.specs.Labels.{contains}
+use Rattle.records.specs.Places.{has, with, without, only}
 
 -- ---- bit q of a number
 abbrev bit : ℕ → ℕ → ℕ
@@ -62,6 +63,32 @@ bits-same (suc n) a b l m f =
 -- sets with the same places are the same
 pub has-same : (s t : ℕ) → ((q : ℕ) → has s q ≡ has t q) → s ≡ t
 has-same s t f = bits-same (s + t) s t (omega arith) (omega arith) (λ q. rw (bit-has s q, bit-has t q, f q))
+
+-- a place of a set that is not empty: the lowest, or one of the halved set
+pub record Some (s : ℕ) : Type 0 where
+  pub place : ℕ
+  pub there : has s place ≡ true
+
+has-lowest : (s : ℕ) → has s 0 ≡ eqb (s % 2) 1
+unfolding has
+has-lowest s = rw (div-one s)
+
+has-halved : (s q : ℕ) → has s (suc q) ≡ has (s / 2) q
+unfolding has
+has-halved s q = rw (pow-succ' 2 q, ← div-div-eq-div-mul s 2 (2 ^ q))
+
+some-below : (n s : ℕ) → s ≤ n → (s ≡ 0 → ⊥) → Some s
+some-below zero s l k = absurd (k (omega arith))
+some-below (suc n) s l k = go (some-below n (s / 2)) (ℕ-discrete (s % 2) 1)
+  where
+    go : (s / 2 ≤ n → (s / 2 ≡ 0 → ⊥) → Some (s / 2)) → Dec (s % 2 ≡ 1) → Some s
+    go rest (yes e) = record { place = 0; there = has-lowest s ∙ eq-eqb (s % 2) 1 e }
+    go rest (no m) =
+        let r = rest (omega arith) (λ e. k (omega arith)) in
+        record { place = suc (r .place); there = has-halved s (r .place) ∙ r .there }
+
+pub some-place : (s : ℕ) → (s ≡ 0 → ⊥) → Some s
+some-place s k = some-below s s (omega arith) k
 
 pub has-none : (q : ℕ) → has 0 q ≡ false
 unfolding has
@@ -161,19 +188,17 @@ without-only p = go (ltb 31 p)
     go true = refl
     go false = omega (arith, and-self (2 ^ p))
 
--- ---- a set within another
+-- ---- a set that contains another
 module _ (s t : ℕ) where
-  pub within-has : within s t ≡ true → (q : ℕ) → has s q ≡ true → has t q ≡ true
-  unfolding within
-  within-has w q = go (has t q) (has s q) (sym (has-and t s q) ∙ ap (λ (x : ℕ). has x q) (eqb-true (bitAnd t s) s w))
+  pub contains-has : contains s t ≡ true → (q : ℕ) → has t q ≡ true → has s q ≡ true
+  contains-has w q = go (has s q) (has t q) (sym (has-and s t q) ∙ ap (λ (x : ℕ). has x q) (eqb-true (bitAnd s t) t w))
     where
       go : (a b : Bool) → (a && b) ≡ b → b ≡ true → a ≡ true
       go true b e h = refl
       go false b e h = e ∙ h
 
-  pub has-within : ((q : ℕ) → has s q ≡ true → has t q ≡ true) → within s t ≡ true
-  unfolding within
-  has-within f = eq-eqb (bitAnd t s) s (has-same (bitAnd t s) s (λ q. has-and t s q ∙ go (has t q) (has s q) (f q)))
+  pub has-contains : ((q : ℕ) → has t q ≡ true → has s q ≡ true) → contains s t ≡ true
+  has-contains f = eq-eqb (bitAnd s t) t (has-same (bitAnd s t) t (λ q. has-and s t q ∙ go (has s q) (has t q) (f q)))
     where
       go : (a b : Bool) → (b ≡ true → a ≡ true) → (a && b) ≡ b
       go true b f = refl

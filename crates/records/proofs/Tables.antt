@@ -59,11 +59,14 @@ puts-at s b k (v ∷ vs) (suc j) h l =
     let z = length-set s (b + k) v in
     rw (e, puts-at (set s (b + k) v) b (suc k) vs j (omega arith) (omega arith))
 
--- ---- a table that is laid out well: its cells are all there is to an element, and an element's own cells say it again
+-- ---- a table that is laid out well: its cells are all there is to an element
 pub record Laid {A : Type 0} (t : Table A) : Type 0 where
   pub near : (f g : ℕ → ℕ) → ((k : ℕ) → k < t .width → g k ≡ f k) → t .of g ≡ t .of f
-  pub back : (a : A) → t .of (λ k. getD (t .cells a) k 0) ≡ a
   pub wide : (a : A) → length (t .cells a) ≡ t .width
+
+-- an element's own cells say it again
+abbrev pub Again : {A : Type 0} → Table A → A → Type 0
+Again t a = t .of (λ k. getD (t .cells a) k 0) ≡ a
 
 -- element i ends before element n begins
 row : (w i n : ℕ) → i < n → w * i + w ≤ w * n
@@ -140,20 +143,20 @@ module _ {A : Type 0} (t : Table A) (laid : Laid t) where
             omega arith
         apart k l x y (no b) (no q) = n (omega arith)
 
-    pub put-here : end t ≤ length s → at t (putAt t s i a) i ≡ a
-    put-here f =
+    pub put-here : Again t a → end t ≤ length s → at t (putAt t s i a) i ≡ a
+    put-here again f =
         laid .near _ _ (λ k l.
         let z = row (t .width) i (t .count) h in
         let w = laid .wide a in
         let e : 0 + k ≡ k = omega arith in
-        rw e at (puts-at s (start t i) 0 (t .cells a) k (omega arith) (omega arith))) ∙ laid .back a
+        rw e at (puts-at s (start t i) 0 (t .cells a) k (omega arith) (omega arith))) ∙ again
 
-    pub table-put : end t ≤ length s → table t (putAt t s i a) ≡ set (table t s) i a
-    table-put f =
+    pub table-put : Again t a → end t ≤ length s → table t (putAt t s i a) ≡ set (table t s) i a
+    table-put again f =
         table-is (putAt t s i a) (set (table t s) i a) a (length-set (table t s) i a ∙ length-table s) (λ j k. go j k (ℕ-discrete j i))
       where
         go : (j : ℕ) → j < t .count → Dec (j ≡ i) → at t (putAt t s i a) j ≡ getD (set (table t s) i a) j a
         go j k (yes e) =
             let z = length-table s in
-            rw (e, put-here f, getD-set-same (table t s) i a a (omega arith))
+            rw (e, put-here again f, getD-set-same (table t s) i a a (omega arith))
         go j k (no n) = put-other j n ∙ sym (table-at s j a k) ∙ sym (getD-set-other (table t s) i j a a n)

@@ -6,49 +6,59 @@ use mathlib.Core.Bool.{Bool, true, false}
 use mathlib.Core.List.{List, [], _∷_, _++_}
 use native.Mathlib.Omega.{arith}
 use native.Mathlib.Numerals.{add-one}
+use native.Mathlib.Nat.{mod-eq-of-lt}
 use native.Mathlib.Decide.{decLe}
 use lib.ListN.{length, getD, set, take, replicate, length-take, length-append}
 use lib.Seq.{getD-set-same, take-set-lt, take-set-le, set-out, take-take, take-all, take-at, take-suc-set}
 use Rattle.records.specs.Tables.{at, table, putAt}
-use Rattle.records.specs.House.{House, numberOf, isYes, view, userTable, scriptTable, sessionTable, draftTable, noUser, noScript, noSession, emptyHouse, withDrafts, putUser, putRooms, putScript, putSession, putDraft, cutDrafts, addDraft}
+use Rattle.records.specs.House.{House, asNumber, isYes, view, userTable, scriptTable, sessionTable, draftTable, noUser, noScript, noSession, emptyHouse, withDrafts, putUser, putRooms, putScript, putSession, putDraft, cutDrafts, addDraft}
 use Rattle.records.specs.declared.User.{User}
 use Rattle.records.specs.declared.Script.{Script}
 use Rattle.records.specs.declared.Session.{Session}
 use Rattle.records.specs.declared.Draft.{Draft}
-use Rattle.records.proofs.Tables.{Laid, start, zeros-at, same-set, same-put, length-puts, length-table, first-length, first-at, table-same, table-put, table-zeros}
+use Rattle.records.proofs.Tables.{Laid, Again, start, zeros-at, same-set, same-put, length-puts, length-table, first-length, first-at, table-same, table-put, table-zeros}
 
 -- ---- the four tables are laid out well
-yes-again : (b : Bool) → isYes (numberOf b) ≡ b
-yes-again false = refl
-yes-again true = refl
-
 pub user-laid : Laid userTable
 user-laid = record {
   near = λ f g h. cc (h 0 (omega arith), h 1 (omega arith), h 2 (omega arith), h 3 (omega arith), h 4 (omega arith), h 5 (omega arith), h 6 (omega arith));
-  back = λ a. rw (yes-again (a .here), yes-again (a .admin));
   wide = λ a. refl;
 }
 
 pub script-laid : Laid scriptTable
 script-laid = record {
   near = λ f g h. cc (h 0 (omega arith), h 1 (omega arith), h 2 (omega arith), h 3 (omega arith));
-  back = λ a. rw (yes-again (a .here));
   wide = λ a. refl;
 }
 
 pub session-laid : Laid sessionTable
 session-laid = record {
   near = λ f g h. cc (h 0 (omega arith), h 1 (omega arith), h 2 (omega arith), h 3 (omega arith), h 4 (omega arith), h 5 (omega arith));
-  back = λ a. rw (yes-again (a .here), yes-again (a .writes));
   wide = λ a. refl;
 }
 
 pub draft-laid : Laid draftTable
 draft-laid = record {
   near = λ f g h. cc (h 0 (omega arith), h 1 (omega arith), h 2 (omega arith));
-  back = λ a. refl;
   wide = λ a. refl;
 }
+
+-- ---- an element's own cells say it again, where its fields have their bytes
+yes-again : (b : Bool) → isYes (asNumber b) ≡ b
+yes-again false = refl
+yes-again true = refl
+
+pub user-again : (u : User) → u .sort < 256 → u .level < 256 → u .categories < 65536 → Again userTable u
+user-again u a b c = rw (yes-again (u .here), yes-again (u .admin), mod-eq-of-lt a, mod-eq-of-lt b, mod-eq-of-lt c)
+
+pub script-again : (s : Script) → s .level < 256 → s .categories < 65536 → s .origin < 256 → Again scriptTable s
+script-again s a b c = rw (yes-again (s .here), mod-eq-of-lt a, mod-eq-of-lt b, mod-eq-of-lt c)
+
+pub session-again : (s : Session) → s .owner < 256 → s .level < 256 → s .categories < 65536 → s .place < 256 → Again sessionTable s
+session-again s a b c d = rw (yes-again (s .here), yes-again (s .writes), mod-eq-of-lt a, mod-eq-of-lt b, mod-eq-of-lt c, mod-eq-of-lt d)
+
+pub draft-again : (d : Draft) → d .script < 256 → Again draftTable d
+draft-again d a = rw (mod-eq-of-lt a)
 
 -- ---- a house by its five parts
 same-house : {h k : House} → h .users ≡ k .users → h .rooms ≡ k .rooms → h .scripts ≡ k .scripts → h .sessions ≡ k .sessions → h .drafts ≡ k .drafts → h ≡ k
@@ -69,54 +79,54 @@ set-first n l i a = go (decLe (suc i) n)
 
 -- ---- after a store
 module _ (s : List ℕ) (z : length s ≡ 1858) where
-  pub view-user : (i : ℕ) (u : User) → i < 64 → view (putAt userTable s i u) ≡ putUser (view s) i u
+  pub view-user : (i : ℕ) (u : User) → Again userTable u → i < 64 → view (putAt userTable s i u) ≡ putUser (view s) i u
   unfolding view
-  view-user i u h =
+  view-user i u again h =
       let m = same-put userTable user-laid s i u h in
       same-house
-      (table-put userTable user-laid s i u h (omega arith))
+      (table-put userTable user-laid s i u h again (omega arith))
       (m 0 (λ l k. omega arith))
       (table-same scriptTable script-laid s _ m (inr (omega arith)))
       (table-same sessionTable session-laid s _ m (inr (omega arith)))
       (same-first (m 1 (λ l k. omega arith)) (table-same draftTable draft-laid s _ m (inr (omega arith))))
 
-  pub view-script : (i : ℕ) (a : Script) → i < 64 → view (putAt scriptTable s i a) ≡ putScript (view s) i a
+  pub view-script : (i : ℕ) (a : Script) → Again scriptTable a → i < 64 → view (putAt scriptTable s i a) ≡ putScript (view s) i a
   unfolding view
-  view-script i a h =
+  view-script i a again h =
       let m = same-put scriptTable script-laid s i a h in
       same-house
       (table-same userTable user-laid s _ m (inl (omega arith)))
       (m 0 (λ l k. omega arith))
-      (table-put scriptTable script-laid s i a h (omega arith))
+      (table-put scriptTable script-laid s i a h again (omega arith))
       (table-same sessionTable session-laid s _ m (inr (omega arith)))
       (same-first (m 1 (λ l k. omega arith)) (table-same draftTable draft-laid s _ m (inr (omega arith))))
 
-  pub view-session : (i : ℕ) (a : Session) → i < 64 → view (putAt sessionTable s i a) ≡ putSession (view s) i a
+  pub view-session : (i : ℕ) (a : Session) → Again sessionTable a → i < 64 → view (putAt sessionTable s i a) ≡ putSession (view s) i a
   unfolding view
-  view-session i a h =
+  view-session i a again h =
       let m = same-put sessionTable session-laid s i a h in
       same-house
       (table-same userTable user-laid s _ m (inl (omega arith)))
       (m 0 (λ l k. omega arith))
       (table-same scriptTable script-laid s _ m (inl (omega arith)))
-      (table-put sessionTable session-laid s i a h (omega arith))
+      (table-put sessionTable session-laid s i a h again (omega arith))
       (same-first (m 1 (λ l k. omega arith)) (table-same draftTable draft-laid s _ m (inr (omega arith))))
 
   -- a draft's cells, also where no live draft stands in them
-  view-row : (i : ℕ) (a : Draft) → i < 256 → view (putAt draftTable s i a) ≡ withDrafts (view s) (take (getD s 1 0) (set (table draftTable s) i a))
+  view-row : (i : ℕ) (a : Draft) → Again draftTable a → i < 256 → view (putAt draftTable s i a) ≡ withDrafts (view s) (take (getD s 1 0) (set (table draftTable s) i a))
   unfolding view
-  view-row i a h =
+  view-row i a again h =
       let m = same-put draftTable draft-laid s i a h in
       same-house
       (table-same userTable user-laid s _ m (inl (omega arith)))
       (m 0 (λ l k. omega arith))
       (table-same scriptTable script-laid s _ m (inl (omega arith)))
       (table-same sessionTable session-laid s _ m (inl (omega arith)))
-      (same-first (m 1 (λ l k. omega arith)) (table-put draftTable draft-laid s i a h (omega arith)))
+      (same-first (m 1 (λ l k. omega arith)) (table-put draftTable draft-laid s i a h again (omega arith)))
 
-  pub view-draft : (i : ℕ) (a : Draft) → i < 256 → view (putAt draftTable s i a) ≡ putDraft (view s) i a
+  pub view-draft : (i : ℕ) (a : Draft) → Again draftTable a → i < 256 → view (putAt draftTable s i a) ≡ putDraft (view s) i a
   unfolding view
-  view-draft i a h = view-row i a h ∙ rw (set-first (getD s 1 0) (table draftTable s) i a)
+  view-draft i a again h = view-row i a again h ∙ rw (set-first (getD s 1 0) (table draftTable s) i a)
 
   pub view-rooms : (n : ℕ) → view (set s 0 n) ≡ putRooms (view s) n
   unfolding view
@@ -169,17 +179,17 @@ module _ (s : List ℕ) (z : length s ≡ 1858) (n : ℕ) where
       let k = count-drafts s in
       view-live s z n ∙ rw (take-take n (getD s 1 0) (table draftTable s) (omega arith))
 
-  pub view-add : (a : Draft) → n ≡ length (view s .drafts) → n < 256 → view (set (putAt draftTable s n a) 1 (n + 1)) ≡ addDraft (view s) a
+  pub view-add : (a : Draft) → Again draftTable a → n ≡ length (view s .drafts) → n < 256 → view (set (putAt draftTable s n a) 1 (n + 1)) ≡ addDraft (view s) a
   unfolding view
-  view-add a e h =
+  view-add a again e h =
       let k = count-drafts s in
       let r = putAt draftTable s n a in
       let l = length-table draftTable draft-laid s in
       let q : n ≡ getD s 1 0 = omega arith in
       let f : length (take (getD s 1 0) (table draftTable s) ++ (a ∷ [])) ≤ 256 = rw (length-append (take (getD s 1 0) (table draftTable s)) (a ∷ [])) (omega arith) in
       view-live r (length-puts s (start draftTable n) 0 (draftTable .cells a) ∙ z) (n + 1)
-      ∙ ap (λ (x : House). withDrafts x (take (n + 1) (table draftTable r))) (view-row s z n a h)
-      ∙ ap (withDrafts (view s)) (rw (table-put draftTable draft-laid s n a h (omega arith), take-all 256 (take (getD s 1 0) (table draftTable s) ++ (a ∷ [])) f, ← q, add-one n, take-suc-set (table draftTable s) n a (omega arith)))
+      ∙ ap (λ (x : House). withDrafts x (take (n + 1) (table draftTable r))) (view-row s z n a again h)
+      ∙ ap (withDrafts (view s)) (rw (table-put draftTable draft-laid s n a h again (omega arith), take-all 256 (take (getD s 1 0) (table draftTable s) ++ (a ∷ [])) f, ← q, add-one n, take-suc-set (table draftTable s) n a (omega arith)))
 
 -- where 256 live, one more is none more
 pub add-full : (h : House) (d : Draft) → length (h .drafts) ≡ 256 → addDraft h d ≡ h

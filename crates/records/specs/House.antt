@@ -1,5 +1,5 @@
 -- The model: the records of a house as lists, how the cells show them, and one part of them anew. 01, "Records and bounds".
-use Prim.Native.Nat.{ℕ}
+use Prim.Native.Nat.{ℕ, _%_}
 use mathlib.Core.Bool.{Bool, true, false, not}
 use mathlib.Core.List.{List, [], _∷_, _++_}
 use lib.Dec.{eqb}
@@ -19,13 +19,20 @@ pub record House : Type 0 where
   pub drafts : List Draft
 
 -- "As numbers: no 0, yes 1; RO 0, RW 1"
-abbrev pub numberOf : Bool → ℕ
-numberOf false = 0
-numberOf true = 1
+abbrev pub asNumber : Bool → ℕ
+asNumber false = 0
+asNumber true = 1
 
 -- what a cell says
 abbrev pub isYes : ℕ → Bool
 isYes n = not (eqb n 0)
+
+-- what a cell says of a field of one byte, and of one of two. 01: "c (categories) two, the rest one"
+abbrev pub inByte : ℕ → ℕ
+inByte n = n % 256
+
+abbrev pub inTwoBytes : ℕ → ℕ
+inTwoBytes n = n % 65536
 
 -- "Place 0 is the house."
 abbrev pub house : ℕ
@@ -51,8 +58,8 @@ userTable = record {
   base = 2;
   width = 7;
   count = 64;
-  of = λ f. record { here = isYes (f 0); sort = f 1; level = f 2; categories = f 3; rooms = f 4; leads = f 5; admin = isYes (f 6) };
-  cells = λ u. numberOf (u .here) ∷ u .sort ∷ u .level ∷ u .categories ∷ u .rooms ∷ u .leads ∷ numberOf (u .admin) ∷ [];
+  of = λ f. record { here = isYes (f 0); sort = inByte (f 1); level = inByte (f 2); categories = inTwoBytes (f 3); rooms = f 4; leads = f 5; admin = isYes (f 6) };
+  cells = λ u. asNumber (u .here) ∷ u .sort ∷ u .level ∷ u .categories ∷ u .rooms ∷ u .leads ∷ asNumber (u .admin) ∷ [];
 }
 
 abbrev pub scriptTable : Table Script
@@ -60,8 +67,8 @@ scriptTable = record {
   base = 450;
   width = 4;
   count = 64;
-  of = λ f. record { here = isYes (f 0); level = f 1; categories = f 2; origin = f 3 };
-  cells = λ s. numberOf (s .here) ∷ s .level ∷ s .categories ∷ s .origin ∷ [];
+  of = λ f. record { here = isYes (f 0); level = inByte (f 1); categories = inTwoBytes (f 2); origin = inByte (f 3) };
+  cells = λ s. asNumber (s .here) ∷ s .level ∷ s .categories ∷ s .origin ∷ [];
 }
 
 abbrev pub sessionTable : Table Session
@@ -69,8 +76,8 @@ sessionTable = record {
   base = 706;
   width = 6;
   count = 64;
-  of = λ f. record { here = isYes (f 0); owner = f 1; level = f 2; categories = f 3; writes = isYes (f 4); place = f 5 };
-  cells = λ s. numberOf (s .here) ∷ s .owner ∷ s .level ∷ s .categories ∷ numberOf (s .writes) ∷ s .place ∷ [];
+  of = λ f. record { here = isYes (f 0); owner = inByte (f 1); level = inByte (f 2); categories = inTwoBytes (f 3); writes = isYes (f 4); place = inByte (f 5) };
+  cells = λ s. asNumber (s .here) ∷ s .owner ∷ s .level ∷ s .categories ∷ asNumber (s .writes) ∷ s .place ∷ [];
 }
 
 -- "at most 256 live"
@@ -79,7 +86,7 @@ draftTable = record {
   base = 1090;
   width = 3;
   count = 256;
-  of = λ f. record { number = f 0; script = f 1; places = f 2 };
+  of = λ f. record { number = f 0; script = inByte (f 1); places = f 2 };
   cells = λ d. d .number ∷ d .script ∷ d .places ∷ [];
 }
 

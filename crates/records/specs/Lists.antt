@@ -24,9 +24,9 @@ count p [] = 0
 count p (x ∷ xs) = cond (p x) (suc (count p xs)) (count p xs)
 
 -- those of which it holds, in their order
-abbrev pub keep : {A : Type 0} → (A → Bool) → List A → List A
-keep p [] = []
-keep p (x ∷ xs) = cond (p x) (x ∷ keep p xs) (keep p xs)
+abbrev pub filter : {A : Type 0} → (A → Bool) → List A → List A
+filter p [] = []
+filter p (x ∷ xs) = cond (p x) (x ∷ filter p xs) (filter p xs)
 
 -- each by a function of its place and itself, the first being place n
 abbrev pub mapFrom : {A : Type 0} → ℕ → (ℕ → A → A) → List A → List A

@@ -18,7 +18,3 @@ without s p = cond (ltb 31 p) s (s - bitAnd s (2 ^ p))
 -- p and no other
 abbrev pub only : ℕ → ℕ
 only p = with 0 p
-
--- each of s is one of t
-unfoldable pub within : ℕ → ℕ → Bool
-within s t = eqb (bitAnd t s) s

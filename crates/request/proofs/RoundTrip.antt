@@ -16,6 +16,7 @@ use Rattle.request.specs.Writing.{written, framed}
 use Rattle.request.specs.declared.Frame.the-variants.{Whole, Cut}
 use Rattle.request.specs.declared.Request.{Request}
 use Rattle.request.specs.declared.Request.the-variants.{Enrol, Establish, JoinStaff, LeaveStaff, JoinOutsider, LeaveOutsider, Add, Remove, Import, Merge, Disband, OpenInRoom, OpenInHouse, OpenReadOnly, Read, Update, Create, Kill, TakeBack}
+use Rattle.request.proofs.Absurd.{differ}
 use Rattle.request.proofs.Rows.{Each, _&_, Found, found}
 use Rattle.request.proofs.Ways.{by-row, whole-at}
 
@@ -133,15 +134,15 @@ module _ (b : List ℕ) (bytes : (i : ℕ) → b # i < 256) where
     where
       whole : (r : Row) → find rows (b # 0) ≡ at r → (t : Bool) → leb (length b) (r .length) ≡ t
           → cond t Cut (Whole (fieldsFrom b 1 (r .body))) ≡ Whole q → b ≡ written q ++ drop (1 + r .length) b
-      whole r f true l e = let z : _≡_ {A = ℕ} 0 1 = cc in absurd (omega arith)
+      whole r f true l e = differ (cc)
       whole r f false l e = whole-back r q (found Right (b # 0) r rows all-right f) (leb-false (length b) (r .length) l) (cc)
 
       row-of : (s : Sought) → find rows (b # 0) ≡ s → frameAt s b ≡ Whole q → b ≡ written q ++ drop (1 + lengthAt s) b
-      row-of none f e = let z : _≡_ {A = ℕ} 0 1 = cc in absurd (omega arith)
+      row-of none f e = differ (cc)
       row-of (at r) f e = whole r f (leb (length b) (r .length)) refl e
 
       first : (t : Bool) → cond t Cut (frameAt (find rows (b # 0)) b) ≡ Whole q → b ≡ written q ++ drop (1 + lengthAt (find rows (b # 0))) b
-      first true e = let z : _≡_ {A = ℕ} 0 1 = cc in absurd (omega arith)
+      first true e = differ (cc)
       first false e = row-of (find rows (b # 0)) refl e
 
 -- ---- a request written out, with anything behind it, is read as that request
@@ -254,9 +255,9 @@ whole-makes : (s : Sought) (b : List ℕ) (q : Request) → frameAt s b ≡ Whol
 whole-makes (at r) b q e = go (leb (length b) (r .length)) e
   where
     go : (t : Bool) → cond t Cut (Whole (fieldsFrom b 1 (r .body))) ≡ Whole q → fieldsFrom b 1 (r .body) ≡ q
-    go true e = absurd (let z : _≡_ {A = ℕ} 0 1 = cc in omega arith)
+    go true e = differ (cc)
     go false e = cc
-whole-makes none b q e = absurd (let z : _≡_ {A = ℕ} 0 1 = cc in omega arith)
+whole-makes none b q e = differ (cc)
 
 pub framed-makes : (q : Request) → requestOf (framed q # 0) (framed q) ≡ q
 framed-makes q =

@@ -8,6 +8,7 @@ use lib.Dec.{T, eqb, ltb, ltb→lt}
 use lib.Ieee.Fits.{and-l, and-r}
 use borrow.Author.Tests.{ne-eqb, eqb-true}
 use Rattle.request.specs.Kinds.{Row, at, none, find, rows, lengthAt}
+use Rattle.request.proofs.Absurd.{differ}
 
 -- ---- a property of every row is the found row's, whose kind is the one looked for
 abbrev pub Each : (Row → Type 0) → List Row → Type 0
@@ -23,7 +24,7 @@ pub record Found (P : Row → Type 0) (x : ℕ) (r : Row) : Type 0 where
   pub kind : x ≡ r .kind
 
 pub found : (P : Row → Type 0) (x : ℕ) (r : Row) (rs : List Row) → Each P rs → find rs x ≡ at r → Found P x r
-found P x r [] ps e = let z : _≡_ {A = ℕ} 0 1 = cc in absurd (omega arith)
+found P x r [] ps e = differ (cc)
 found P x r (s ∷ rs) (p, ps) e = go (eqb x (s .kind)) refl e (found P x r rs ps)
   where
     go : (t : Bool) → eqb x (s .kind) ≡ t → cond t (at s) (find rs x) ≡ at r → (find rs x ≡ at r → Found P x r) → Found P x r

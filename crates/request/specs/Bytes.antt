@@ -1,5 +1,5 @@
 -- Bytes and the numbers they spell. 01: "Numbers are big-endian".
-use Prim.Native.Nat.{ℕ, _+_, _*_, _/_, _%_}
+use Prim.Native.Nat.{ℕ, _+_, _*_, _/_, _%_, _<_}
 use mathlib.Core.List.{List, _∷_}
 use lib.ListN.{getD}
 
@@ -7,6 +7,10 @@ use lib.ListN.{getD}
 infixl 90 _#_
 abbrev pub _#_ : List ℕ → ℕ → ℕ
 b # i = getD b i 0
+
+-- each is a byte, as it is in every slice of bytes
+abbrev pub Bytes : List ℕ → Type 0
+Bytes b = (i : ℕ) → b # i < 256
 
 -- the number of two bytes, and of four, the most significant first
 abbrev pub pair : ℕ → ℕ → ℕ

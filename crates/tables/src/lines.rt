@@ -17,9 +17,9 @@ pub fn hex(name: &[u8], n: u32, width: usize) {
     io::print_hex(STDOUT_FILENO, n as u64, width);
 }
 
-fn room(records: &Cells, place: u32) {
+fn room(records: &Cells, place: u8) {
     if records::has(records::rooms(records), place) {
-        decimal(b" ", place);
+        decimal(b" ", place as u32);
     }
 }
 
@@ -29,9 +29,9 @@ fn user(records: &Cells, u: u32) {
         return;
     }
     decimal(b"user ", u);
-    decimal(b" sort ", user.sort);
-    decimal(b" level ", user.level);
-    hex(b" categories ", user.categories, 4);
+    decimal(b" sort ", user.sort as u32);
+    decimal(b" level ", user.level as u32);
+    hex(b" categories ", user.categories as u32, 4);
     hex(b" rooms ", user.rooms, 8);
     hex(b" leads ", user.leads, 8);
     if user.admin {
@@ -47,9 +47,9 @@ fn script(records: &Cells, s: u32) {
         return;
     }
     decimal(b"script ", s);
-    decimal(b" level ", script.level);
-    hex(b" categories ", script.categories, 4);
-    decimal(b" origin ", script.origin);
+    decimal(b" level ", script.level as u32);
+    hex(b" categories ", script.categories as u32, 4);
+    decimal(b" origin ", script.origin as u32);
     say(b"\n");
 }
 
@@ -59,15 +59,15 @@ fn session(records: &Cells, s: u32) {
         return;
     }
     decimal(b"session ", s);
-    decimal(b" owner ", session.owner);
-    decimal(b" level ", session.level);
-    hex(b" categories ", session.categories, 4);
+    decimal(b" owner ", session.owner as u32);
+    decimal(b" level ", session.level as u32);
+    hex(b" categories ", session.categories as u32, 4);
     if session.writes {
         say(b" RW");
     } else {
         say(b" RO");
     }
-    decimal(b" place ", session.place);
+    decimal(b" place ", session.place as u32);
     say(b"\n");
 }
 
@@ -100,7 +100,7 @@ fn draft(records: &Cells, i: usize)
     if follows(records, i) {
         decimal(b" to ", draft.number);
     }
-    decimal(b" script ", draft.script);
+    decimal(b" script ", draft.script as u32);
     hex(b" places ", draft.places, 8);
     say(b"\n");
 }

@@ -6,7 +6,7 @@ use Rattle.desk.proofs.main.Tie as tie
 
 run-requires : tie.Need-run-requires
 run-requires c κs =
-    (c .before .before .before .before .before .before .before .before .before .before .«open» .ensures 0, (refl, sym (c .before .before .before .before .before .before .large-buffer .ensures)))
+    (c .before .before .before .before .before .before .before .before .before .before .«open» .ensures, (refl, sym (c .before .before .before .before .before .before .large-buffer .ensures)))
 
 pub main-spec : {M : Type 1} → statement M
 main-spec =

@@ -1,63 +1,88 @@
--- `run` meets its contract: between two turns, what was printed and what the bytes kept are still to give is what is to be printed for all that was read.
+-- `run` meets its contract: between two turns it stands where the pieces read lead, and has room for the next.
 use borrow.Author.Needs.{needs}
 use native.Mathlib.Omega.{arith}
-use mathlib.Core.Path.{sym, _∙_}
+use mathlib.Core.Path.{_≡_, sym, _∙_}
+use mathlib.Core.List.{List}
+use Prim.Native.Nat.{ℕ, _+_, _≤_}
+use lib.ListN.{length}
+use borrow.Author.Tests.{not-false}
 use denote.Ref.{now}
-use lib.Seq.{length-take-le}
 use Rattle.history.specs.Desk.{shown}
-use Rattle.desk.proofs.Steps.{Between, at-first, used-fits, counted, few-left, read-on}
+use Rattle.desk.proofs.Loop.{Between, at-start, filled, filled-length, filled-same, text-there, again}
+use Rattle.desk.proofs.Steps.{part-length}
 use Rattle.desk.proofs.run.Statement.{statement}
 use Rattle.desk.proofs.run.Tie as tie
 
 abbrev Inv-loop : tie.InvT-loop
-Inv-loop base₀ log₀ current₀ last₀ buf₀ out₀ ordinal₀ have₀ turns₀ t15 t16 base log current last buf out ordinal have turns =
+Inv-loop base₀ log₀ current₀ last₀ buf₀ out₀ ordinal₀ have₀ turns₀ t14 t15 base log current last buf out ordinal have turns =
     Between (shown base log current last) ordinal have turns buf out
 
 abbrev μ-loop : tie.MeasureT-loop
-μ-loop base₀ log₀ current₀ last₀ buf₀ out₀ ordinal₀ have₀ turns₀ t15 t16 base log current last buf out ordinal have turns =
+μ-loop base₀ log₀ current₀ last₀ buf₀ out₀ ordinal₀ have₀ turns₀ t14 t15 base log current last buf out ordinal have turns =
     turns
 
 loop-holds : tie.Need-loop-holds Inv-loop μ-loop
 loop-holds c =
     let s = c .before .before in
-    record { few = omega arith; buf-length = s .pre .1 .0; out-length = s .pre .1 .1; small = omega arith; reading = at-first (s .pre .0) (now (s .args .buf)) }
+    at-start (s .pre .0) (now (s .args .buf)) (now (s .args .out)) (s .pre .1 .0) (s .pre .1 .1)
 
-slice-aggregate-answer-all : tie.Need-slice-aggregate-answer-all Inv-loop μ-loop
-slice-aggregate-answer-all c =
-    let p = c .before .before .before .before .before .before .before .before .read-more in
-    let l = c .before .before .before .before .before .before .before .before .before .before .before .loop in
-    sym (length-take-le (p .result .end) (p .last .0) (p .ensures .room))
-
-answer-all-requires : tie.Need-answer-all-requires Inv-loop μ-loop
-answer-all-requires c κs =
-    let p = c .before .before .before .before .before .before .before .before .before .read-more in
-    let l = c .before .before .before .before .before .before .before .before .before .before .before .before .loop in
+answer-piece-requires : tie.Need-answer-piece-requires Inv-loop μ-loop
+answer-piece-requires c κs =
+    let l = c .before .before .before .before .before .before .before .before .before .before .before .before .before .before .before .loop in
     let i = l .inv in
-    (omega (arith, length-take-le (p .result .end) (p .last .0) (p .ensures .room), i .small, i .buf-length, p .kept .0, p .ensures .room, c .before .before .before .before .before .before .before .before .before .before .before .loop-test), omega (arith, length-take-le (p .result .end) (p .last .0) (p .ensures .room), i .buf-length, i .out-length, p .kept .0, p .ensures .room))
+    let read = c .before .before .before .before .before .before .before .before .before .before .before .before .read in
+    let B : List ℕ = filled (l .buf) (l .have) (read .last .1 .0) in
+    let inside : l .have ≤ length (l .buf) = omega (arith, i .few, i .buf-length) in
+    let size : length B ≡ length (l .buf) = filled-length (l .buf) (l .have) (read .last .1 .0) inside (read .kept .1 .0) in
+    let n = c .before .before .before .before .before .before .count in
+    let room : l .have + n .result ≤ length B = omega (arith, size, inside, n .ensures .0 .0, part-length (l .have) B) in
+    (room, (omega (arith, i .small, i .buf-length, size, room, c .before .before .before .before .before .before .before .before .before .before .before .before .before .before .loop-test), omega (arith, i .buf-length, i .out-length, size, room)))
 
-keep-requires : tie.Need-keep-requires Inv-loop μ-loop
-keep-requires c κs =
-    let p = c .before .before .before .before .before .before .before .before .before .before .before .before .before .before .before .before .before .before .read-more in
-    let l = c .before .before .before .before .before .before .before .before .before .before .before .before .before .before .before .before .before .before .before .before .before .loop in
-    let a = c .before .before .before .before .before .before .before .before .answer-all in
-    (used-fits (l .inv .reading) (p .last .0) (l .have) (p .result .end) (p .ensures .more) (p .ensures .room) (p .ensures .same) (a .result) (a .last .1 .1 .1 .1 .1 .1 .1 .0) (a .ensures), p .ensures .room)
+slice-reshare-prefix-write-all : tie.Need-slice-reshare-prefix-write-all Inv-loop μ-loop
+slice-reshare-prefix-write-all c =
+    text-there (c .before .before .before .before .answer-piece .ensures) .0
+
+slice-aggregate-write-all : tie.Need-slice-aggregate-write-all Inv-loop μ-loop
+slice-aggregate-write-all c =
+    text-there (c .before .before .before .before .before .answer-piece .ensures) .1
+
+same-length-3 : tie.Need-same-length-3 Inv-loop μ-loop
+same-length-3 c =
+    let l = c .before .before .before .before .before .before .before .before .before .before .before .before .before .before .before .before .before .before .before .before .before .before .before .before .before .loop in
+    let i = l .inv in
+    let read = c .before .before .before .before .before .before .before .before .before .before .before .before .before .before .before .before .before .before .before .before .before .before .read in
+    let inside : l .have ≤ length (l .buf) = omega (arith, i .few, i .buf-length) in
+    c .before .before .before .before .before .before .before .before .before .answer-piece .kept .1 .1 .1 .1 .1 .0 ∙ filled-length (l .buf) (l .have) (read .last .1 .0) inside (read .kept .1 .0) ∙ i .buf-length ∙ sym (c .before .before .before .before .before .before .before .before .before .before .before .before .before .before .before .before .before .before .before .before .before .before .before .before .before .before .before .before .pre .1 .0)
+
+same-length-5 : tie.Need-same-length-5 Inv-loop μ-loop
+same-length-5 c =
+    let l = c .before .before .before .before .before .before .before .before .before .before .before .before .before .before .before .before .before .before .before .before .before .before .before .before .before .loop in
+    let i = l .inv in
+    let read = c .before .before .before .before .before .before .before .before .before .before .before .before .before .before .before .before .before .before .before .before .before .before .read in
+    let inside : l .have ≤ length (l .buf) = omega (arith, i .few, i .buf-length) in
+    c .before .before .before .before .before .before .before .before .before .answer-piece .kept .1 .1 .1 .1 .1 .0 ∙ filled-length (l .buf) (l .have) (read .last .1 .0) inside (read .kept .1 .0) ∙ i .buf-length ∙ sym (c .before .before .before .before .before .before .before .before .before .before .before .before .before .before .before .before .before .before .before .before .before .before .before .before .before .before .before .before .pre .1 .0)
+
+same-length-4 : tie.Need-same-length-4 Inv-loop μ-loop
+same-length-4 c =
+    c .before .before .before .before .before .before .before .before .before .answer-piece .kept .1 .1 .1 .1 .1 .1 .1 .1 .0 ∙ c .before .before .before .before .before .before .before .before .before .before .before .before .before .before .before .before .before .before .before .before .before .before .before .before .before .loop .inv .out-length ∙ sym (c .before .before .before .before .before .before .before .before .before .before .before .before .before .before .before .before .before .before .before .before .before .before .before .before .before .before .before .before .pre .1 .1)
+
+same-length-6 : tie.Need-same-length-6 Inv-loop μ-loop
+same-length-6 c =
+    c .before .before .before .before .before .before .before .before .before .answer-piece .kept .1 .1 .1 .1 .1 .1 .1 .1 .0 ∙ c .before .before .before .before .before .before .before .before .before .before .before .before .before .before .before .before .before .before .before .before .before .before .before .before .before .loop .inv .out-length ∙ sym (c .before .before .before .before .before .before .before .before .before .before .before .before .before .before .before .before .before .before .before .before .before .before .before .before .before .before .before .before .pre .1 .1)
 
 loop-again : tie.Need-loop-again Inv-loop μ-loop
 loop-again c =
-    let p = c .before .before .before .before .before .before .before .before .before .before .before .before .before .before .before .before .before .before .before .before .before .read-more in
-    let l = c .before .before .before .before .before .before .before .before .before .before .before .before .before .before .before .before .before .before .before .before .before .before .before .before .loop in
-    let a = c .before .before .before .before .before .before .before .before .before .before .before .answer-all in
-    let k = c .before .before .keep in
+    let l = c .before .before .before .before .before .before .before .before .before .before .before .before .before .before .before .before .before .before .before .before .before .before .before .before .before .loop in
     let i = l .inv in
-    let s = c .before .before .before .before .if4 .left in
-    record {
-      few = few-left (l .inv .reading) (p .last .0) (l .have) (p .result .end) (p .ensures .more) (p .ensures .room) (p .ensures .same) (a .result) (a .last .1 .1 .1 .1 .1 .1 .1 .0) (a .ensures) s (k .result) (k .ensures .0);
-      buf-length = k .kept .0 ∙ p .kept .0 ∙ i .buf-length;
-      out-length = a .kept .1 .1 .1 .1 .1 .1 .1 .0 ∙ i .out-length;
-      small = omega (arith, counted (l .inv .reading) (p .last .0) (l .have) (p .result .end) (p .ensures .more) (p .ensures .room) (p .ensures .same) (a .result) (a .last .1 .1 .1 .1 .1 .1 .1 .0) (a .ensures), i .small, i .buf-length, p .kept .0, p .ensures .room, c .before .before .before .before .before .before .before .before .before .before .before .before .before .before .before .before .before .before .before .before .before .before .before .loop-test);
-      reading = read-on (l .inv .reading) (p .last .0) (l .have) (p .result .end) (p .ensures .more) (p .ensures .room) (p .ensures .same) (a .result) (a .last .1 .1 .1 .1 .1 .1 .1 .0) (a .ensures) (c .before .before .before .before .before .if3 .left) s (k .result) (k .last .0) (k .ensures .0) (k .ensures .1);
-    }
+    let read = c .before .before .before .before .before .before .before .before .before .before .before .before .before .before .before .before .before .before .before .before .before .before .read in
+    let B : List ℕ = filled (l .buf) (l .have) (read .last .1 .0) in
+    let inside : l .have ≤ length (l .buf) = omega (arith, i .few, i .buf-length) in
+    let size : length B ≡ length (l .buf) = filled-length (l .buf) (l .have) (read .last .1 .0) inside (read .kept .1 .0) in
+    let n = c .before .before .before .before .before .before .before .before .before .before .before .before .before .before .before .before .count in
+    let room : l .have + n .result ≤ length B = omega (arith, size, inside, n .ensures .0 .0, part-length (l .have) B) in
+    let a = c .before .before .before .before .before .before .before .before .before .answer-piece in
+    again i B (filled-same (l .buf) (l .have) (read .last .1 .0) inside) (n .result) room (size ∙ i .buf-length) (a .result) (a .last .1 .1 .1 .1 .1 .0) (a .last .1 .1 .1 .1 .1 .1 .1 .1 .0) (a .ensures) (omega (arith, c .before .before .before .before .before .before .before .before .before .before .before .before .before .before .before .before .before .before .before .before .before .before .before .before .loop-test)) (a .kept .1 .1 .1 .1 .1 .0 ∙ size ∙ i .buf-length) (a .kept .1 .1 .1 .1 .1 .1 .1 .1 .0 ∙ i .out-length) (not-false _ (c .if3 .left))
 
 pub run-spec : {M : Type 1} → statement M
 run-spec =
-    tie.close (tie.spec Inv-loop μ-loop loop-holds (λ c κs. search needs) (λ c. search needs) (λ c κs. search needs) (λ c. search needs) (λ c. search needs) (λ c. search needs) (λ c. search needs) slice-aggregate-answer-all answer-all-requires (λ c. search needs) (λ c. search needs) (λ c κs. search needs) (λ c. search needs) (λ c κs. search needs) (λ c. search needs) (λ c. search needs) (λ c. search needs) (λ c. search needs) (λ c. search needs) (λ c. search needs) (λ c. search needs) (λ c. search needs) (λ c. search needs) keep-requires (λ c. search needs) (λ c. search needs) loop-again (λ c. search needs) (λ c. search needs) (λ c. search needs))
+    tie.close (tie.spec Inv-loop μ-loop loop-holds (λ c. search needs) (λ c. search needs) (λ c. search needs) (λ c κs. search needs) (λ c. search needs) (λ c κs. search needs) (λ c. search needs) (λ c. search needs) (λ c. search needs) (λ c. search needs) (λ c. search needs) (λ c. search needs) (λ c κs. search needs) answer-piece-requires slice-reshare-prefix-write-all slice-aggregate-write-all (λ c κs. search needs) (λ c. search needs) (λ c κs. search needs) same-length-3 same-length-4 (λ c. search needs) same-length-5 same-length-6 (λ c. search needs) (λ c. search needs) (λ c. search needs) loop-again (λ c. search needs) (λ c. search needs) (λ c. search needs))

@@ -16,7 +16,7 @@ unfolding past tabulate
 no-past n = ap (λ (k : ℕ). tabulate (min k 32) (λ i. at changeTable (replicate n 0) ((replicate n 0 # 0 + i) % 32))) (zeros-at n 1)
 
 returns : tie.Need-returns
-returns c = λ last. λ i. record { base = view-zeros 1858 i; log = no-past 418 i; current = view-zeros 1858 i; last = last }
+returns c = λ i. record { base = view-zeros 1858 i; log = no-past 418 i; current = view-zeros 1858 i; last = c .args .last }
 
 pub open-spec : {M : Type 1} → statement M
 open-spec = tie.close (tie.spec returns)

@@ -1,10 +1,9 @@
 -- `answer_next` meets its contract: the frame is told, and the line of its answer is put.
 use borrow.Author.Needs.{needs}
-use native.Mathlib.Omega.{arith}
 use mathlib.Core.Path.{sym, _∙_}
 use denote.Ref.{now}
 use borrow.Author.Tests.{not-true, not-false}
-use Rattle.desk.proofs.Steps.{next-whole, next-unknown, next-cut, next-waits}
+use Rattle.desk.proofs.Steps.{made-whole, made-unknown, made-cut, made-waits}
 use Rattle.desk.proofs.answers.answer_next.Statement.{statement}
 use Rattle.desk.proofs.answers.answer_next.Tie as tie
 
@@ -12,31 +11,31 @@ returns : tie.Need-returns
 returns c =
     let s = c .before .before .before .before .before .before .before .before in
     rw (c .so-far3 .ensures)
-    (next-waits _ (s .args .ordinal) (now (s .args .requests)) (s .args .ends) (now (s .args .out)) (s .args .at) (s .pre .0)
+    (made-waits (s .args .ended) _ (s .args .ordinal) (now (s .args .requests)) (now (s .args .out)) (s .args .at)
     (sym (c .before .before .enum-told2 .given .1) ∙ c .before .before .before .before .read .ensures) (not-true _ (c .before .if1 .taken)))
 
 returns-2 : tie.Need-returns-2
 returns-2 c =
     let s = c .before .before .before .before .before .before .before .before .before .before .before .before .before .before .before .before .before .before in
     rw (c .so-far .ensures)
-    (next-whole _ (s .args .ordinal) (s .args .ends) (now (s .args .out)) (s .args .at) _ _ (now (s .args .requests)) (s .pre .0)
-    (λ i. omega (arith, c .before .before .before .before .before .before .before .before .before .before .before .before .before .before .before .shared-slice-known2 .given i)) _ _ _ _ (sym (c .before .before .before .before .before .before .before .before .before .before .before .before .frame .given .1) ∙ c .before .before .before .before .before .before .before .before .before .before .before .before .before .before .read .ensures) (c .before .before .before .before .before .before .take .ensures)
+    (made-whole (s .args .ended) _ (s .args .ordinal) (now (s .args .requests)) (now (s .args .out)) (s .args .at) _ _ _ _ _ _
+    (sym (c .before .before .before .before .before .before .before .before .before .before .before .before .frame .given .1) ∙ c .before .before .before .before .before .before .before .before .before .before .before .before .before .before .read .ensures) (c .before .before .before .before .before .before .take .ensures)
     (c .before .body-length .ensures .0) (c .before .before .before .before .line .ensures))
 
 returns-3 : tie.Need-returns-3
 returns-3 c =
     let s = c .before .before .before .before .before .before .before .before .before .before .before in
     rw (c .so-far2 .ensures)
-    (next-unknown _ (s .args .ordinal) (s .args .ends) (now (s .args .out)) (s .args .at) _ _ (now (s .args .requests)) (s .pre .0)
+    (made-unknown (s .args .ended) _ (s .args .ordinal) (now (s .args .requests)) (now (s .args .out)) (s .args .at) _ _
     (sym (c .before .before .before .before .before .enum-told .given .1) ∙ c .before .before .before .before .before .before .before .read .ensures) (c .before .before .before .line2 .ensures))
 
 returns-4 : tie.Need-returns-4
 returns-4 c =
     let s = c .before .before .before .before .before .before .before .before .before .before .before .before in
     rw (c .so-far4 .ensures)
-    (next-cut _ (s .args .ordinal) (s .args .ends) (now (s .args .out)) (s .args .at) _ _ (now (s .args .requests)) (s .pre .0)
+    (made-cut (s .args .ended) _ (s .args .ordinal) (now (s .args .requests)) (now (s .args .out)) (s .args .at) _ _
     (sym (c .before .before .before .before .before .before .enum-told2 .given .1) ∙ c .before .before .before .before .before .before .before .before .read .ensures) (not-false _ (c .before .before .before .before .before .if1 .left)) (c .before .before .before .line3 .ensures))
 
 pub answer-next-spec : {M : Type 1} → statement M
 answer-next-spec =
-    tie.close (tie.spec (λ c. search needs) (λ c κs. search needs) (λ c. search needs) (λ c κs. search needs) (λ c κs. search needs) (λ c κs. search needs) (λ c. search needs) (λ c. search needs) (λ c κs. search needs) (λ c. search needs) (λ c κs. search needs) (λ c κs. search needs) (λ c. search needs) (λ c κs. search needs) returns (λ c κs. search needs) (λ c κs. search needs) (λ c. search needs) returns-2 (λ c. search needs) returns-3 (λ c. search needs) returns-4)
+    tie.close (tie.spec (λ c. search needs) (λ c κs. search needs) (λ c. search needs) (λ c κs. search needs) (λ c κs. search needs) (λ c κs. search needs) (λ c. search needs) (λ c. search needs) (λ c κs. search needs) (λ c. search needs) (λ c κs. search needs) (λ c. search needs) (λ c κs. search needs) (λ c. search needs) (λ c κs. search needs) returns (λ c κs. search needs) (λ c. search needs) (λ c κs. search needs) (λ c. search needs) returns-2 (λ c. search needs) returns-3 (λ c. search needs) returns-4)

@@ -1,0 +1,101 @@
+-- Where the loop that reads stands between two turns: where `turn` leads from the first stand by the pieces read, and within its bounds.
+use mathlib.Core.Path.{_≡_, refl, sym, ap, _∙_, subst}
+use mathlib.Core.Bool.{Bool, true, false, _&&_}
+use mathlib.Core.List.{List, [], _∷_, _++_}
+use Prim.Native.Nat.{ℕ, _+_, _-_, _*_, _≤_, _<_}
+use native.Mathlib.Omega.{arith}
+use lib.ListN.{length, take, drop, length-append, length-take, length-drop}
+use lib.Seq.{length-take-le, take-at}
+use Rattle.records.specs.House.{House}
+use Rattle.effects.specs.declared.Change.{Change}
+use Rattle.history.specs.Machine.{Desk, opened}
+use Rattle.history.specs.Desk.{deskRules}
+use Rattle.io.specs.Counts.{Counts}
+use Rattle.desk.specs.Turns.{Stand, stand, first, Turned, turn, standAfter, wentOn, TurnIs}
+use Rattle.desk.specs.declared.pieces.Turn.{Turn}
+use Rattle.desk.proofs.Steps.{part-length, ordinal-near, few-waiting}
+
+pub record Reached (s : Stand) : Type 0 where
+  pub pieces : List (List ℕ)
+  pub went : wentOn first pieces ≡ true
+  pub is : standAfter first pieces ≡ s
+
+after-one-more : (s : Stand) (pieces : List (List ℕ)) (piece : List ℕ) → standAfter s (pieces ++ (piece ∷ [])) ≡ turn (standAfter s pieces) piece .next
+after-one-more s [] piece = refl
+after-one-more s (p ∷ more) piece = after-one-more (turn s p .next) more piece
+
+went-one-more : (s : Stand) (pieces : List (List ℕ)) (piece : List ℕ) → wentOn s pieces ≡ true → turn (standAfter s pieces) piece .onward ≡ true → wentOn s (pieces ++ (piece ∷ [])) ≡ true
+went-one-more s [] piece w on = rw on refl
+went-one-more s (p ∷ more) piece w on = go (turn s p .onward) w (λ v. went-one-more (turn s p .next) more piece v on)
+  where
+    go : (g : Bool) → g && wentOn (turn s p .next) more ≡ true → (wentOn (turn s p .next) more ≡ true → wentOn (turn s p .next) (more ++ (piece ∷ [])) ≡ true)
+        → g && wentOn (turn s p .next) (more ++ (piece ∷ [])) ≡ true
+    go true w rest = rest w
+    go false w rest = w
+
+reached-on : (s : Stand) → Reached s → (piece : List ℕ) → turn s piece .onward ≡ true → Reached (turn s piece .next)
+reached-on s r piece on =
+    record {
+      pieces = r .pieces ++ (piece ∷ []);
+      went = went-one-more first (r .pieces) piece (r .went) (ap (λ (x : Stand). turn x piece .onward) (r .is) ∙ on);
+      is = after-one-more first (r .pieces) piece ∙ ap (λ (x : Stand). turn x piece .next) (r .is);
+    }
+
+pub record Between (d : Desk House Change) (ordinal have turns : ℕ) (buf out : List ℕ) : Type 0 where
+  pub few : have ≤ 8
+  pub buf-length : length buf ≡ 1024
+  pub out-length : length out ≡ 65536
+  pub small : ordinal + 1024 * turns ≤ 1 + 1024 * 1125899906842624
+  pub reached : Reached (stand d ordinal (take have buf))
+
+pub at-start : {d : Desk House Change} → d ≡ opened deskRules 0 → (buf out : List ℕ) → length buf ≡ 1024 → length out ≡ 65536 → Between d 1 0 1125899906842624 buf out
+at-start e buf out b o =
+    record {
+      few = omega arith;
+      buf-length = b;
+      out-length = o;
+      small = omega arith;
+      reached = record { pieces = []; went = refl; is = ap (λ (d : Desk House Change). stand d 1 []) (sym e) };
+    }
+
+-- bytes were read behind the first `have` bytes of buf
+abbrev pub filled : List ℕ → ℕ → List ℕ → List ℕ
+filled buf have bytes = take have buf ++ (bytes ++ drop (length buf - have) (drop have buf))
+
+pub filled-length : (buf : List ℕ) (have : ℕ) (bytes : List ℕ) → have ≤ length buf → length bytes ≡ length (take (length buf - have) (drop have buf)) → length (filled buf have bytes) ≡ length buf
+filled-length buf have bytes l e =
+    let p = part-length have buf in
+    let t = length-take-le have buf l in
+    let d = length-drop have buf in
+    let r = length-drop (length buf - have) (drop have buf) in
+    simp length-append (omega arith)
+
+pub filled-same : (buf : List ℕ) (have : ℕ) (bytes : List ℕ) → have ≤ length buf → take have (filled buf have bytes) ≡ take have buf
+filled-same buf have bytes l = take-at (take have buf) (bytes ++ drop (length buf - have) (drop have buf)) have (length-take-le have buf l)
+
+pub text-there : {t : Turned} {d : Desk House Change} {r : Turn} {buf out : List ℕ} → TurnIs t d r buf out → Counts (r .text) out
+text-there {r = r} {out = out} is =
+    let size : r .text ≡ length (take (r .text) out) = is .text-length ∙ ap length (sym (is .text)) in
+    (omega (arith, size, length-take (r .text) out), size)
+
+-- a piece was read: buf is now `read`, with the bytes that wait as they were
+module _ {d : Desk House Change} {ordinal have turns : ℕ} {buf out : List ℕ} (between : Between d ordinal have turns buf out) (read : List ℕ) (same : take have read ≡ take have buf)
+    (got : ℕ) (room : have + got ≤ length read) (read-length : length read ≡ 1024)
+    {d′ : Desk House Change} (r : Turn) (buf′ out′ : List ℕ) (is : TurnIs (turn (stand d ordinal (take have read)) (take got (drop have read))) d′ r buf′ out′)
+  where
+    pub again : 0 < turns → length buf′ ≡ 1024 → length out′ ≡ 65536 → r .onward ≡ true → Between d′ (r .ordinal) (r .have) (turns - 1) buf′ out′
+    again some b o on =
+        let s : Stand = stand d ordinal (take have read) in
+        let piece : List ℕ = take got (drop have read) in
+        let goes : turn s piece .onward ≡ true = sym (is .onward) ∙ on in
+        let near = ordinal-near d ordinal read have got room in
+        record {
+          few = omega (arith, is .have, few-waiting d ordinal read have got room goes);
+          buf-length = b;
+          out-length = o;
+          small = omega (arith, between .small, is .ordinal, near, room, read-length, some);
+          reached =
+              let here : Reached s = subst (λ (w : List ℕ). Reached (stand d ordinal w)) (sym same) (between .reached) in
+              let next : turn s piece .next ≡ stand d′ (r .ordinal) (take (r .have) buf′) = λ i. stand (sym (is .desk) i) (sym (is .ordinal) i) (sym (is .waiting) i) in
+              subst Reached next (reached-on s here piece goes);
+        }

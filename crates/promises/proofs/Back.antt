@@ -1,0 +1,191 @@
+-- What is kept, and that a take-back leaves the records as they stood before the change. Of every desk, or of every desk reached from an opening.
+use Prim.Native.Nat.{ℕ, _+_, _-_}
+use mathlib.Core.Path.{_≡_, refl, sym, ap, _∙_}
+use mathlib.Core.Bool.{true}
+use mathlib.Core.List.{List, [], _∷_, foldl, foldl-append}
+use mathlib.Core.Logic.{_⊎_, inl, inr}
+use Rattle.request.specs.declared.Request.{Request}
+use Rattle.request.specs.declared.Request.the-variants.{Enrol, Establish, JoinStaff, LeaveStaff, JoinOutsider, LeaveOutsider, Add, Remove, Import, Merge, Disband, OpenInRoom, OpenInHouse, OpenReadOnly, Read, Update, Create, Kill, TakeBack}
+use Rattle.request.proofs.Absurd.{differ}
+use Rattle.records.specs.House.{House}
+use Rattle.effects.specs.declared.Change.{Change}
+use Rattle.log.specs.Log.{pushed, popped}
+use Rattle.judge.specs.Kinds.{grantOf}
+use Rattle.judge.specs.declared.Ruling.{Ruling}
+use Rattle.judge.specs.declared.Ruling.the-variants.{Pass, Keep, KeepNumbered}
+use Rattle.history.specs.Machine.{Rulebook, Desk, Outcome, opened, changed, keepChange, step, run, answers}
+use Rattle.history.specs.Desk.{changeOf, deskRules}
+use Rattle.promises.specs.Book.{blank}
+use Rattle.promises.specs.Events.{reachedDesk}
+use Rattle.promises.specs.Grants.{grants}
+use Rattle.promises.specs.Back.{IsRead, is-read, IsTakeBack, is-take-back, IsChange, numberIn, TakenBack, BothBack, Idle, refused, reads, EachAnswered, nextDesk, atLast, ThenBack, AsItStood}
+use Rattle.promises.proofs.Bools.{clash}
+use Rattle.promises.proofs.Agrees.{opened-agrees}
+use Rattle.promises.proofs.Runs.{run-agrees}
+use Rattle.promises.proofs.Ways.{Way, by-rule, no-number, no-change, read, plain, with-number, back, way}
+use Rattle.promises.proofs.Listed.{refusal}
+use Rattle.promises.proofs.Past.{left-so, log-after, Sound, lessNewest, keep-back}
+
+-- ---- "Kept changes: every granted request but Read and Take back."
+abbrev Kept : Ruling → Type 0
+Kept g = (g ≡ Keep) ⊎ (g ≡ KeepNumbered)
+
+-- the kinds whose grant is kept are those two out of all
+pub change-kept : (q : Request) → IsChange q → Kept (grantOf q)
+change-kept (Enrol u new sort level c admin) k = inl refl
+change-kept (Establish u room) k = inl refl
+change-kept (JoinStaff u w room) k = inl refl
+change-kept (LeaveStaff u w room) k = inl refl
+change-kept (JoinOutsider u w room level c) k = inl refl
+change-kept (LeaveOutsider u w room) k = inl refl
+change-kept (Add u s v room) k = inl refl
+change-kept (Remove u s v room) k = inl refl
+change-kept (Import u s₁ v s₂ room) k = inr refl
+change-kept (Merge u s v room) k = inl refl
+change-kept (Disband u room) k = inl refl
+change-kept (OpenInRoom u s room level c) k = inl refl
+change-kept (OpenInHouse u s level c) k = inl refl
+change-kept (OpenReadOnly u s level c) k = inl refl
+change-kept (Read s x v) k = absurd (k .no-read (is-read s x v))
+change-kept (Update s x v) k = inr refl
+change-kept (Create s x) k = inr refl
+change-kept (Kill u s) k = inl refl
+change-kept (TakeBack u) k = absurd (k .no-take-back (is-take-back u))
+
+read-passes : {q : Request} → IsRead q → grantOf q ≡ Pass
+read-passes (is-read x s v) = refl
+
+back-undoes : {q : Request} → IsTakeBack q → grantOf q ≡ Ruling.TakeBack
+back-undoes (is-take-back u) = refl
+
+pub kept-change : (q : Request) → Kept (grantOf q) → IsChange q
+kept-change q k = record { no-read = λ r. no-pass k (read-passes r); no-take-back = λ r. no-undo k (back-undoes r) }
+  where
+    no-pass : Kept (grantOf q) → grantOf q ≡ Pass → ⊥
+    no-pass (inl e) p = differ cc
+    no-pass (inr e) p = differ cc
+
+    no-undo : Kept (grantOf q) → grantOf q ≡ Ruling.TakeBack → ⊥
+    no-undo (inl e) p = differ cc
+    no-undo (inr e) p = differ cc
+
+-- ---- at any desk
+module _ (d : Desk House Change) (q : Request) where
+  abbrev so : Outcome House Change
+  so = step deskRules d q
+
+  granted-told : {o : Outcome House Change} → so ≡ o → grants (so .answer) ≡ grants (o .answer)
+  granted-told s = ap (λ (o : Outcome House Change). grants (o .answer)) s
+
+  -- a kept change, with the number that it bears
+  record Made : Type 0 where
+    number : ℕ
+    last : ℕ
+    desk : so .desk ≡ keepChange deskRules d (changeOf q number) last
+    given : number ≡ numberIn (so .answer)
+
+  made-so : grants (so .answer) ≡ true → IsChange q → Made
+  made-so g c = go (change-kept q c) (way d q)
+    where
+      go : Kept (grantOf q) → Way d q so → Made
+      go e (by-rule n r s) = clash g (granted-told s)
+      go e (no-number a k l s) = clash g (granted-told s)
+      go e (no-change a k l s) = clash g (granted-told s)
+      go (inl e) (read a k s) = differ cc
+      go (inr e) (read a k s) = differ cc
+      go e (plain a k s) = record {
+        number = 0;
+        last = d .last;
+        desk = ap (λ (o : Outcome House Change). o .desk) s;
+        given = sym (ap (λ (o : Outcome House Change). numberIn (o .answer)) s);
+      }
+      go e (with-number a k l s) = record {
+        number = d .last + 1;
+        last = d .last + 1;
+        desk = ap (λ (o : Outcome House Change). o .desk) s;
+        given = sym (ap (λ (o : Outcome House Change). numberIn (o .answer)) s);
+      }
+      go (inl e) (back a k n t) = differ cc
+      go (inr e) (back a k n t) = differ cc
+
+  -- every granted request but Read and Take back is kept: it is the newest change then
+  pub every-grant-kept : grants (so .answer) ≡ true → IsChange q → so .desk .log ≡ pushed (d .log) (changeOf q (numberIn (so .answer)))
+  every-grant-kept g c =
+      let m = made-so g c in
+      ap (λ (e : Desk House Change). e .log) (m .desk) ∙ log-after deskRules d (changeOf q (m .number)) (m .last)
+      ∙ ap (λ (n : ℕ). pushed (d .log) (changeOf q n)) (m .given)
+
+  -- a Read, and whatever was refused, changes nothing at all
+  pub idle-stays : Idle q (so .answer) → so .desk ≡ d
+  idle-stays (refused n e) = refusal d q n e .unchanged
+  idle-stays (reads r) = go (read-passes r) (way d q)
+    where
+      same : {o : Outcome House Change} → so ≡ o → so .desk ≡ o .desk
+      same s = ap (λ (o : Outcome House Change). o .desk) s
+
+      go : grantOf q ≡ Pass → Way d q so → so .desk ≡ d
+      go p (by-rule n r s) = same s
+      go p (no-number a k l s) = same s
+      go p (no-change a k l s) = same s
+      go p (read a k s) = same s
+      go p (plain a k s) = differ cc
+      go p (with-number a k l s) = differ cc
+      go p (back a k n t) = differ cc
+
+-- a granted Take back takes the newest kept change, and is not kept itself
+pub takes-newest : (d : Desk House Change) (u : ℕ) → grants (step deskRules d (TakeBack u) .answer) ≡ true → TakenBack deskRules d (step deskRules d (TakeBack u))
+takes-newest d u g = go (way d (TakeBack u))
+  where
+    go : Way d (TakeBack u) (step deskRules d (TakeBack u)) → TakenBack deskRules d (step deskRules d (TakeBack u))
+    go (by-rule n r s) = clash g (granted-told d (TakeBack u) s)
+    go (no-number a k l s) = clash g (granted-told d (TakeBack u) s)
+    go (no-change a k l s) = clash g (granted-told d (TakeBack u) s)
+    go (read a k s) = differ cc
+    go (plain a k s) = differ cc
+    go (with-number a k l s) = differ cc
+    go (back a k n t) = t
+
+pub idle-run : (d : Desk House Change) (rs : List Request) → EachAnswered Idle rs (answers deskRules d rs) → run deskRules d rs ≡ d
+idle-run d [] e = refl
+idle-run d (q ∷ rs) e = idle-run (step deskRules d q .desk) rs (e .1) ∙ idle-stays d q (e .0)
+
+-- ---- "A Take back can't itself be taken back": the next one takes the change before
+pub back-for-good : (d : Desk House Change) (u : ℕ) (rs : List Request) (w : ℕ) → ThenBack d (TakeBack u) rs w
+    → BothBack d (step deskRules (atLast d (TakeBack u) rs) (TakeBack w))
+back-for-good d u rs w b =
+    let once = nextDesk d (TakeBack u) in
+    let p = left-so (takes-newest (atLast d (TakeBack u) rs) w (b .back)) ∙ ap less (idle-run once rs (b .idle) ∙ left-so (takes-newest d u (b .granted))) in
+    record {
+      log = ap (λ (e : Desk House Change). e .log) p;
+      last = ap (λ (e : Desk House Change). e .last) p;
+      records = ap (λ (e : Desk House Change). e .current) p;
+    }
+  where
+    less : Desk House Change → Desk House Change
+    less e = record { base = e .base; log = popped (e .log); current = changed deskRules (e .base) (popped (e .log)); last = e .last }
+
+-- ---- back as it stood
+-- at every reached desk the records are those of the base and all kept changes
+reached-sound : {S C Q : Type 0} (R : Rulebook S C Q) (n : ℕ) (qs : List Q) → Sound R (λ _. Unit {0}) (run R (opened R n) qs)
+reached-sound R n qs = record { made = made; each = λ k. tt }
+  where
+    made : run R (opened R n) qs .current ≡ changed R (run R (opened R n) qs .base) (run R (opened R n) qs .log)
+    made =
+        let a = run-agrees R (opened R n) (blank n) (opened-agrees R n) qs in
+        let d = run R (opened R n) qs in
+        a .now ∙ ap (foldl (R .apply) (R .none)) (a .split) ∙ foldl-append (R .apply) (R .none) (a .older) (d .log)
+        ∙ ap (λ (s : _). changed R s (d .log)) (sym (a .base-is))
+
+-- a granted change, then requests that are refused or only read, then a granted Take back: the records are those before the change; the number stays
+pub back-as-it-stood : (n : ℕ) (before : List Request) (q : Request) (rs : List Request) (u : ℕ) → IsChange q → ThenBack (reachedDesk n before) q rs u
+    → AsItStood (reachedDesk n before) q (step deskRules (atLast (reachedDesk n before) q rs) (TakeBack u))
+back-as-it-stood n before q rs u c b =
+    let stood = reachedDesk n before in
+    let t = takes-newest (atLast stood q rs) u (b .back) in
+    let m = made-so stood q (b .granted) c in
+    let same = idle-run (nextDesk stood q) rs (b .idle) in
+    record {
+      records = t .records ∙ ap (lessNewest deskRules) (same ∙ m .desk)
+          ∙ keep-back deskRules (λ _. Unit {0}) stood (reached-sound deskRules n before) (changeOf q (m .number)) (m .last);
+      number = t .last ∙ ap (λ (e : Desk House Change). e .last) same;
+    }

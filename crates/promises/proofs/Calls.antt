@@ -1,0 +1,74 @@
+-- What is promised holds of every desk that bytes reach: over any calls of the batch, and over any input of the program.
+use Prim.Native.Nat.{ℕ, _≤_}
+use mathlib.Core.Path.{_≡_, refl, sym, ap, _∙_, subst}
+use mathlib.Core.Bool.{Bool, true, false, _&&_}
+use mathlib.Core.List.{List, [], _∷_, _++_}
+use native.Mathlib.Omega.{arith}
+use lib.ListN.{length}
+use lib.Seq.{take-all}
+use Rattle.request.specs.Bytes.{Bytes}
+use Rattle.request.specs.Framing.{seriesOf}
+use Rattle.request.specs.declared.Request.{Request}
+use Rattle.records.specs.Lists.{all}
+use Rattle.counter.specs.Numbers.{top}
+use Rattle.history.specs.Machine.{opened, step, run, answers}
+use Rattle.history.specs.Desk.{deskRules}
+use Rattle.batch.specs.Batch.{State, roomFor, taken}
+use Rattle.batch.proofs.Served.{desk-runs}
+use Rattle.promises.specs.Fits.{fits}
+use Rattle.promises.specs.Calls.{Call, Calls, none, then, roomOf, takenIn, Promised}
+use Rattle.promises.proofs.Fitting.{taken-fit}
+use Rattle.promises.proofs.Reached.{reached}
+use Rattle.promises.proofs.Back.{back-as-it-stood}
+use Rattle.promises.proofs.Seen.{given-once, live-made}
+use Rattle.promises.proofs.Demands.{by-the-book, by-the-answers, rising, no-change-left, newest-goes}
+
+-- ---- of any requests that fit their bytes
+pub of-requests : (last : ℕ) → last ≤ top → (qs : List Request) → all fits qs ≡ true → Promised last qs (run deskRules (opened deskRules last) qs)
+of-requests last l qs fit = record {
+  by-the-book = by-the-book last qs;
+  by-the-answers = by-the-answers last qs;
+  rising = rising last qs;
+  no-change-left = λ u a z. no-change-left last qs u a z;
+  newest-goes = λ u a n. newest-goes last qs u a n;
+  back-as-it-stood = λ q rs u c b. back-as-it-stood last qs q rs u c b;
+  given-once = given-once last qs;
+  live-made = live-made last qs;
+  meets = reached last l qs fit;
+}
+
+-- ---- of any calls of the batch
+run-on : (d : State) (ps qs : List Request) → run deskRules d (ps ++ qs) ≡ run deskRules (run deskRules d ps) qs
+run-on d [] qs = refl
+run-on d (p ∷ ps) qs = run-on (step deskRules d p .desk) ps qs
+
+all-on : (ps qs : List Request) → all fits ps ≡ true → all fits qs ≡ true → all fits (ps ++ qs) ≡ true
+all-on [] qs a b = b
+all-on (p ∷ ps) qs a b = go (fits p) a (λ t. all-on ps qs t b)
+  where
+    go : (t : Bool) → (t && all fits ps) ≡ true → (all fits ps ≡ true → all fits (ps ++ qs) ≡ true) → (t && all fits (ps ++ qs)) ≡ true
+    go true e on = on e
+    go false e on = e
+
+-- a desk that calls lead to is the one that the requests which they took lead to, and all of these fit
+pub calls-run : {d d′ : State} {cs : List Call} → Calls d cs d′ → d′ ≡ run deskRules d (takenIn d cs)
+calls-run none = refl
+calls-run {d} {d′} (then {d₁ = d₁} {cs = cs} c bytes b more) =
+    let qs : List Request = taken d (c .requests) (roomOf c) in
+    calls-run more ∙ ap (λ (x : State). run deskRules x (takenIn x cs)) (desk-runs b) ∙ sym (run-on d qs (takenIn (run deskRules d qs) cs))
+
+pub calls-fit : {d d′ : State} {cs : List Call} → Calls d cs d′ → all fits (takenIn d cs) ≡ true
+calls-fit none = refl
+calls-fit {d} (then {cs = cs} c bytes b more) =
+    all-on (taken d (c .requests) (roomOf c)) _ (taken-fit (c .requests) bytes (roomFor (roomOf c) (answers deskRules d (seriesOf (c .requests) .requests))))
+    (subst (λ (x : State). all fits (takenIn x cs) ≡ true) (desk-runs b) (calls-fit more))
+
+pub of-calls : (last : ℕ) → last ≤ top → {cs : List Call} {d : State} → Calls (opened deskRules last) cs d → Promised last (takenIn (opened deskRules last) cs) d
+of-calls last l {cs} {d} c =
+    subst (Promised last (takenIn (opened deskRules last) cs)) (sym (calls-run c)) (of-requests last l (takenIn (opened deskRules last) cs) (calls-fit c))
+
+-- ---- of any input of the program, which opens with 0: its answers are those of the requests that the input is cut into
+pub of-input : (input : List ℕ) → Bytes input → Promised 0 (seriesOf input .requests) (run deskRules (opened deskRules 0) (seriesOf input .requests))
+of-input input bytes =
+    let qs : List Request = seriesOf input .requests in
+    of-requests 0 (omega arith) qs (subst (λ (l : List Request). all fits l ≡ true) (take-all (length qs) qs (omega arith)) (taken-fit input bytes (length qs)))

@@ -1,0 +1,55 @@
+-- The ways of one request at any desk: what the answer was, why, and what the desk is then.
+use mathlib.Core.Path.{_≡_, refl, ap}
+use Prim.Native.Nat.{ℕ, _+_}
+use native.Mathlib.Decide.{ℕ-discrete}
+use lib.ListN.{length}
+use Rattle.request.specs.declared.Request.{Request}
+use Rattle.records.specs.House.{House}
+use Rattle.effects.specs.declared.Change.{Change}
+use Rattle.judge.specs.Refusals.{AllHold}
+use Rattle.judge.specs.Kinds.{linesOf, grantOf, rulingOf}
+use Rattle.judge.specs.declared.Ruling.{Ruling}
+use Rattle.judge.specs.declared.Ruling.the-variants.{Pass, Keep, KeepNumbered, TakeBack}
+use Rattle.judge.proofs.Order.{Verdict, grant, refusal, verdict, refused-exactly, grant-is-none}
+use Rattle.counter.specs.Numbers.{top}
+use Rattle.history.specs.Machine.{undo, Desk, Outcome, outcome, keepChange, step}
+use Rattle.history.specs.Desk.{changeOf, verdictOf, deskRules}
+use Rattle.history.specs.declared.Answer.{Answer}
+use Rattle.promises.specs.Back.{TakenBack}
+use Rattle.promises.proofs.Trace.{none-left, some-left}
+use Rattle.promises.proofs.Demands.{allowed, refused, passed, made, numbered, spent}
+
+pub data Way (d : Desk House Change) (q : Request) (o : Outcome House Change) : Type 0 where
+  by-rule : (n : ℕ) → rulingOf (d .current) q ≡ Ruling.Refused n → o ≡ outcome d (Answer.Refused n) → Way d q o
+  no-number : AllHold (linesOf (d .current) q) → grantOf q ≡ KeepNumbered → d .last ≡ top → o ≡ outcome d (Answer.Refused 11) → Way d q o
+  no-change : AllHold (linesOf (d .current) q) → grantOf q ≡ TakeBack → length (d .log) ≡ 0 → o ≡ outcome d (Answer.Refused 12) → Way d q o
+  read : AllHold (linesOf (d .current) q) → grantOf q ≡ Pass → o ≡ outcome d Answer.Granted → Way d q o
+  plain : AllHold (linesOf (d .current) q) → grantOf q ≡ Keep → o ≡ outcome (keepChange deskRules d (changeOf q 0) (d .last)) Answer.Granted → Way d q o
+  with-number : AllHold (linesOf (d .current) q) → grantOf q ≡ KeepNumbered → (d .last ≡ top → ⊥)
+      → o ≡ outcome (keepChange deskRules d (changeOf q (d .last + 1)) (d .last + 1)) (Answer.Numbered (d .last + 1)) → Way d q o
+  back : AllHold (linesOf (d .current) q) → grantOf q ≡ TakeBack → (length (d .log) ≡ 0 → ⊥) → TakenBack deskRules d o → Way d q o
+
+pub way : (d : Desk House Change) (q : Request) → Way d q (step deskRules d q)
+way d q = go (verdict (linesOf (d .current) q))
+  where
+    by-grant : (r : Ruling) → grantOf q ≡ r → AllHold (linesOf (d .current) q) → Way d q (step deskRules d q)
+    by-grant (Ruling.Refused n) e a = absurd (grant-is-none q n e)
+    by-grant Pass e a = read a e (passed d q e a)
+    by-grant Keep e a = plain a e (made d q e a)
+    by-grant KeepNumbered e a = go (ℕ-discrete (d .last) top)
+      where
+        go : Dec (d .last ≡ top) → Way d q (step deskRules d q)
+        go (yes l) = no-number a e l (spent d q e a l)
+        go (no l) = with-number a e l (numbered d q e a l)
+    by-grant TakeBack e a = go (ℕ-discrete (length (d .log)) 0)
+      where
+        undone : deskRules .judge (d .current) q ≡ undo
+        undone = ap (verdictOf q) (allowed d q TakeBack e a)
+
+        go : Dec (length (d .log) ≡ 0) → Way d q (step deskRules d q)
+        go (yes z) = no-change a e z (none-left deskRules d q undone z)
+        go (no n) = back a e n (some-left deskRules d q undone n)
+
+    go : Verdict (linesOf (d .current) q) → Way d q (step deskRules d q)
+    go (grant a) = by-grant (grantOf q) refl a
+    go (refusal n f) = by-rule n (refused-exactly (d .current) q n .1 f) (refused d q n f)

@@ -1,0 +1,66 @@
+-- Desks that bytes reach: an opening, then any calls of the batch, each with any bytes, any buffer and any place; and what is promised of them.
+use Prim.Native.Nat.{ℕ, _-_}
+use mathlib.Core.Bool.{true}
+use mathlib.Core.Path.{_≡_}
+use mathlib.Core.List.{List, [], _∷_, _++_, foldl}
+use lib.ListN.{length}
+use Rattle.request.specs.Bytes.{Bytes}
+use Rattle.request.specs.declared.Request.{Request}
+use Rattle.request.specs.declared.Request.the-variants.{TakeBack}
+use Rattle.records.specs.House.{emptyHouse}
+use Rattle.effects.specs.Effects.{applied}
+use Rattle.judge.specs.Refusals.{AllHold}
+use Rattle.judge.specs.Kinds.{linesOf}
+use Rattle.history.specs.Machine.{outcome, step, run}
+use Rattle.history.specs.Desk.{deskRules}
+use Rattle.history.specs.declared.Answer.{Answer}
+use Rattle.batch.specs.Batch.{State, taken, Batched}
+use Rattle.batch.specs.declared.Ran.{Ran}
+use Rattle.promises.specs.Lists.{Each}
+use Rattle.promises.specs.Book.{blank, bookAfter, numbers, Rising, events, survive}
+use Rattle.promises.specs.Events.{eventOf, given, keptNow}
+use Rattle.promises.specs.Back.{IsChange, TakenBack, ThenBack, AsItStood, atLast}
+use Rattle.promises.specs.Seen.{answerAt, moment, Made}
+use Rattle.promises.specs.Rules.{rules}
+
+-- a call of the batch: what it was lent, what it returned and how it left the answer buffer
+pub record Call : Type 0 where
+  pub requests : List ℕ
+  pub buffer : List ℕ
+  pub place : ℕ
+  pub returned : Ran
+  pub after : List ℕ
+
+-- the answer bytes that the buffer has from the place on
+abbrev pub roomOf : Call → ℕ
+roomOf c = length (c .buffer) - c .place
+
+-- these calls, each of which kept the batch's contract, lead from one desk to another
+pub data Calls : State → List Call → State → Type 0 where
+  none : {d : State} → Calls d [] d
+  then : {d d₁ d₂ : State} {cs : List Call} (c : Call) → Bytes (c .requests)
+      → Batched d (c .requests) (c .buffer) (c .place) d₁ (c .returned) (c .after) → Calls d₁ cs d₂ → Calls d (c ∷ cs) d₂
+
+-- the requests that they took, in order
+abbrev pub takenIn : State → List Call → List Request
+takenIn d [] = []
+takenIn d (c ∷ cs) = let qs : List Request = taken d (c .requests) (roomOf c) in qs ++ takenIn (run deskRules d qs) cs
+
+-- ---- what is promised of the desk d that requests lead to from an opening: demand 3, what the user fears, and the record rules
+pub record Promised (last : ℕ) (qs : List Request) (d : State) : Type 0 where
+  -- "the records equal those got by starting empty and applying, in order, every granted change that wasn't taken back, each with the draft number it
+  -- received": by the book of survivors, and by requests and answers alone
+  pub by-the-book : d .current ≡ foldl applied emptyHouse (bookAfter deskRules (blank last) qs .survivors)
+  pub by-the-answers : d .current ≡ foldl applied emptyHouse (survive [] (events eventOf qs (given last qs)))
+  -- "Each draft number is larger than all before it, taken-back ones included"
+  pub rising : Rising last (numbers (given last qs))
+  -- "refused for want of one exactly when none of the last 32 is left by the counting rule", else "the newest kept change" goes
+  pub no-change-left : (u : ℕ) → AllHold (linesOf (d .current) (TakeBack u)) → keptNow last qs ≡ 0 → step deskRules d (TakeBack u) ≡ outcome d (Answer.Refused 12)
+  pub newest-goes : (u : ℕ) → AllHold (linesOf (d .current) (TakeBack u)) → (keptNow last qs ≡ 0 → ⊥) → TakenBack deskRules d (step deskRules d (TakeBack u))
+  -- "leads close the wrong room .. and need it back as it stood"
+  pub back-as-it-stood : (q : Request) (rs : List Request) (u : ℕ) → IsChange q → ThenBack d q rs u → AsItStood d q (step deskRules (atLast d q rs) (TakeBack u))
+  -- "a number once seen must never name another text": it is given once, and at each moment what bears it was made by the request that got it
+  pub given-once : (i j v : ℕ) → answerAt (given last qs) i ≡ Answer.Numbered v → answerAt (given last qs) j ≡ Answer.Numbered v → i ≡ j
+  pub live-made : (k : ℕ) → Each (Made last qs k) (moment last qs k .drafts)
+  -- "Every desk reached from an opening meets these record rules"
+  pub meets : rules (d .current) (d .last) ≡ true
