@@ -20,7 +20,7 @@ use Rattle.history.specs.Desk.{changeOf, verdictOf, deskRules}
 use Rattle.history.specs.declared.Answer.{Answer}
 use Rattle.promises.specs.Back.{TakenBack}
 use Rattle.promises.specs.Book.{blank, bookAfter, numbers, Rising, kept, back, nothing, events, survive, Shows}
-use Rattle.promises.specs.Events.{grantShows, eventOf, reachedDesk, given, keptNow}
+use Rattle.promises.specs.Events.{grantShows, eventOf, reachedDesk, answersFrom, keptNow}
 use Rattle.promises.proofs.Granted.{conditions}
 use Rattle.promises.proofs.Runs.{records-are-survivors, numbers-rise}
 use Rattle.promises.proofs.Past
@@ -107,11 +107,11 @@ module _ (last : ℕ) (qs : List Request) where
   by-the-book = records-are-survivors deskRules last qs
 
   -- .. and over requests and answers alone
-  pub by-the-answers : reachedDesk last qs .current ≡ foldl applied emptyHouse (survive [] (events eventOf qs (given last qs)))
+  pub by-the-answers : reachedDesk last qs .current ≡ foldl applied emptyHouse (survive [] (events eventOf qs (answersFrom last qs)))
   by-the-answers = records-are-shown deskRules eventOf shows last qs
 
   -- "Each draft number is larger than all before it, taken-back ones included", and larger than the opening number
-  pub rising : Rising last (numbers (given last qs))
+  pub rising : Rising last (numbers (answersFrom last qs))
   rising = numbers-rise deskRules last qs
 
   module _ (u : ℕ) (all : AllHold (linesOf (reachedDesk last qs .current) (TakeBack u))) where

@@ -10,7 +10,7 @@ use Rattle.judge.proofs.Order.{granted-exactly, grant-is-none}
 use Rattle.history.specs.Machine.{Desk, Outcome, step}
 use Rattle.history.specs.Desk.{deskRules}
 use Rattle.history.specs.declared.Answer.{Answer}
-use Rattle.promises.specs.Grants.{grants, Allowed, Exactly, grantAfter}
+use Rattle.promises.specs.Grants.{grants, Allowed, GrantedExactly, grantAfter}
 use Rattle.promises.proofs.Bools.{clash}
 use Rattle.promises.proofs.Ways.{Way, by-rule, no-number, no-change, read, plain, with-number, back, way}
 
@@ -22,7 +22,7 @@ module _ (d : Desk House Change) (q : Request) where
   told : {o : Outcome House Change} → step deskRules d q ≡ o → grants answer ≡ grants (o .answer)
   told s = ap (λ (o : Outcome House Change). grants (o .answer)) s
 
-  pub exactly : Exactly d q answer
+  pub exactly : GrantedExactly d q answer
   exactly = record { granted-allowed = λ g. only-then g (way d q); allowed-granted = λ a. always-then a (way d q) }
     where
       only-then : grants answer ≡ true → Way d q (step deskRules d q) → Allowed d q

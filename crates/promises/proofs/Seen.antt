@@ -26,8 +26,8 @@ use Rattle.history.specs.declared.Answer.{Answer}
 use Rattle.history.specs.declared.Answer.the-variants.{Granted, Numbered, Refused}
 use Rattle.promises.specs.Lists.{Each}
 use Rattle.promises.specs.Book.{numbers, Rising}
-use Rattle.promises.specs.Events.{given}
-use Rattle.promises.specs.Seen.{Makes, by-import, by-update, by-create, requestAt, answerAt, moment, MadeAt, Made, SameText}
+use Rattle.promises.specs.Events.{answersFrom}
+use Rattle.promises.specs.Seen.{Makes, by-import, by-update, by-create, requestNo, answerAt, moment, MadeAt, MadeBefore, SameText}
 use Rattle.promises.proofs.Lists.{each-imp, each-at, each-anew, each-map, each-keep, each-more, each-take}
 use Rattle.promises.proofs.Past.{Sound, sound-opened, now-holds, sound-more, sound-keep, sound-back}
 use Rattle.promises.proofs.Demands.{rising}
@@ -57,8 +57,8 @@ once-given last (Numbered n ∷ l) r (suc i) zero m e f = let z : n ≡ m = cc i
 once-given last (Numbered n ∷ l) r (suc i) (suc j) m e f = ap suc (once-given n l (r .1) i j m e f)
 
 -- two answers of a run with the same number are one answer
-pub given-once : (n : ℕ) (qs : List Request) (i j m : ℕ) → answerAt (given n qs) i ≡ Numbered m → answerAt (given n qs) j ≡ Numbered m → i ≡ j
-given-once n qs = once-given n (given n qs) (rising n qs)
+pub given-once : (n : ℕ) (qs : List Request) (i j m : ℕ) → answerAt (answersFrom n qs) i ≡ Numbered m → answerAt (answersFrom n qs) j ≡ Numbered m → i ≡ j
+given-once n qs = once-given n (answersFrom n qs) (rising n qs)
 
 -- ---- the drafts after a change: those before it, by number and script, or the one that it makes
 module _ (P : ℕ → ℕ → Type 0) where
@@ -156,7 +156,7 @@ step-seen P d q S = go (way d q)
 record MadeFrom (d : Desk House Change) (qs : List Request) (n s : ℕ) : Type 0 where
   place : ℕ
   answered : answerAt (answers deskRules d qs) place ≡ Numbered n
-  for-script : Makes (requestAt qs place) s
+  for-script : Makes (requestNo qs place) s
 
 abbrev Since : (ℕ → ℕ → Type 0) → Desk House Change → List Request → ℕ → ℕ → Type 0
 Since P d qs n s = P n s ⊎ MadeFrom d qs n s
@@ -194,7 +194,7 @@ none-made u s (by-import v s₁ w room e) = differ cc
 none-made u s (by-update x v e) = differ cc
 none-made u s (by-create x e) = differ cc
 
-makes-before : (k : ℕ) (qs : List Request) (i s : ℕ) → Makes (requestAt (take k qs) i) s → Makes (requestAt qs i) s
+makes-before : (k : ℕ) (qs : List Request) (i s : ℕ) → Makes (requestNo (take k qs) i) s → Makes (requestNo qs i) s
 makes-before zero qs i s m = none-made 0 s m
 makes-before (suc k) [] i s m = m
 makes-before (suc k) (q ∷ qs) zero s m = m
@@ -217,17 +217,17 @@ none-yet n s = ⊥
 
 module _ (n : ℕ) (qs : List Request) where
   -- every draft live at any moment was made by the one request that was answered with its number, and is of that request's script
-  pub live-made : (k : ℕ) → Each (Made n qs k) (moment n qs k .drafts)
+  pub live-made : (k : ℕ) → Each (MadeBefore n qs k) (moment n qs k .drafts)
   unfolding emptyHouse
   live-made k =
-      each-imp (Of from) (Made n qs k) (moment n qs k .drafts) (λ d m. told d m)
+      each-imp (Of from) (MadeBefore n qs k) (moment n qs k .drafts) (λ d m. told d m)
       (now-holds deskRules (Drafts from) (run deskRules (opened deskRules n) (take k qs))
       (run-seen none-yet (opened deskRules n) (take k qs) (sound-opened deskRules (Drafts none-yet) n tt)))
     where
       from : ℕ → ℕ → Type 0
       from = Since none-yet (opened deskRules n) (take k qs)
 
-      told : (d : Draft) → Of from d → Made n qs k d
+      told : (d : Draft) → Of from d → MadeBefore n qs k d
       told d (inl m) = absurd m
       told d (inr m) =
           let b = answered-before (opened deskRules n) k qs (m .place) (d .number) (m .answered) in
@@ -244,13 +244,13 @@ module _ (n : ℕ) (qs : List Request) where
   same-text k l i j p q e =
       let c = draftAt (moment n qs k) i in
       let d = draftAt (moment n qs l) j in
-      let a = each-at (Made n qs k) (moment n qs k .drafts) noDraft i p (live-made k) in
-      let b = each-at (Made n qs l) (moment n qs l .drafts) noDraft j q (live-made l) in
+      let a = each-at (MadeBefore n qs k) (moment n qs k .drafts) noDraft i p (live-made k) in
+      let b = each-at (MadeBefore n qs l) (moment n qs l .drafts) noDraft j q (live-made l) in
       let together : b .place ≡ a .place = a .alone (b .place) (b .made .answered ∙ ap Numbered (sym e)) in
       let other = subst (MadeAt n qs (d .number) (d .script)) together (b .made) in
       record {
         place = a .place;
         one = a .made;
         other = other;
-        same-script = one-script (requestAt qs (a .place)) (c .script) (d .script) (a .made .for-script) (other .for-script);
+        same-script = one-script (requestNo qs (a .place)) (c .script) (d .script) (a .made .for-script) (other .for-script);
       }

@@ -18,9 +18,9 @@ use Rattle.batch.specs.Batch.{State, taken, Batched}
 use Rattle.batch.specs.declared.Ran.{Ran}
 use Rattle.promises.specs.Lists.{Each}
 use Rattle.promises.specs.Book.{blank, bookAfter, numbers, Rising, events, survive}
-use Rattle.promises.specs.Events.{eventOf, given, keptNow}
+use Rattle.promises.specs.Events.{eventOf, answersFrom, keptNow}
 use Rattle.promises.specs.Back.{IsChange, TakenBack, ThenBack, AsItStood, atLast}
-use Rattle.promises.specs.Seen.{answerAt, moment, Made}
+use Rattle.promises.specs.Seen.{answerAt, moment, MadeBefore}
 use Rattle.promises.specs.Rules.{rules}
 
 -- a call of the batch: what it was lent, what it returned and how it left the answer buffer
@@ -51,16 +51,16 @@ pub record Promised (last : ℕ) (qs : List Request) (d : State) : Type 0 where
   -- "the records equal those got by starting empty and applying, in order, every granted change that wasn't taken back, each with the draft number it
   -- received": by the book of survivors, and by requests and answers alone
   pub by-the-book : d .current ≡ foldl applied emptyHouse (bookAfter deskRules (blank last) qs .survivors)
-  pub by-the-answers : d .current ≡ foldl applied emptyHouse (survive [] (events eventOf qs (given last qs)))
+  pub by-the-answers : d .current ≡ foldl applied emptyHouse (survive [] (events eventOf qs (answersFrom last qs)))
   -- "Each draft number is larger than all before it, taken-back ones included"
-  pub rising : Rising last (numbers (given last qs))
+  pub rising : Rising last (numbers (answersFrom last qs))
   -- "refused for want of one exactly when none of the last 32 is left by the counting rule", else "the newest kept change" goes
   pub no-change-left : (u : ℕ) → AllHold (linesOf (d .current) (TakeBack u)) → keptNow last qs ≡ 0 → step deskRules d (TakeBack u) ≡ outcome d (Answer.Refused 12)
   pub newest-goes : (u : ℕ) → AllHold (linesOf (d .current) (TakeBack u)) → (keptNow last qs ≡ 0 → ⊥) → TakenBack deskRules d (step deskRules d (TakeBack u))
   -- "leads close the wrong room .. and need it back as it stood"
   pub back-as-it-stood : (q : Request) (rs : List Request) (u : ℕ) → IsChange q → ThenBack d q rs u → AsItStood d q (step deskRules (atLast d q rs) (TakeBack u))
   -- "a number once seen must never name another text": it is given once, and at each moment what bears it was made by the request that got it
-  pub given-once : (i j v : ℕ) → answerAt (given last qs) i ≡ Answer.Numbered v → answerAt (given last qs) j ≡ Answer.Numbered v → i ≡ j
-  pub live-made : (k : ℕ) → Each (Made last qs k) (moment last qs k .drafts)
+  pub given-once : (i j v : ℕ) → answerAt (answersFrom last qs) i ≡ Answer.Numbered v → answerAt (answersFrom last qs) j ≡ Answer.Numbered v → i ≡ j
+  pub live-made : (k : ℕ) → Each (MadeBefore last qs k) (moment last qs k .drafts)
   -- "Every desk reached from an opening meets these record rules"
   pub meets : rules (d .current) (d .last) ≡ true

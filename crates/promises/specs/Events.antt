@@ -30,9 +30,9 @@ eventOf q (Answer.Refused n) = nothing
 abbrev pub reachedDesk : ℕ → List Request → Desk House Change
 reachedDesk n qs = run deskRules (opened deskRules n) qs
 
-abbrev pub given : ℕ → List Request → List Answer
-given n qs = answers deskRules (opened deskRules n) qs
+abbrev pub answersFrom : ℕ → List Request → List Answer
+answersFrom n qs = answers deskRules (opened deskRules n) qs
 
 -- the kept count by 01's rule, read off requests and answers
 abbrev pub keptNow : ℕ → List Request → ℕ
-keptNow n qs = keptCount 0 (events eventOf qs (given n qs))
+keptNow n qs = keptCount 0 (events eventOf qs (answersFrom n qs))

@@ -34,7 +34,7 @@ pub record Allowed (d : Desk House Change) (q : Request) : Type 0 where
   pub change-left : grantOf q ≡ TakeBack → length (d .log) ≡ 0 → ⊥
 
 -- granted exactly when the rules allow it
-pub record Exactly (d : Desk House Change) (q : Request) (a : Answer) : Type 0 where
+pub record GrantedExactly (d : Desk House Change) (q : Request) (a : Answer) : Type 0 where
   pub granted-allowed : grants a ≡ true → Allowed d q
   pub allowed-granted : Allowed d q → grants a ≡ true
 
