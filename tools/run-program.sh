@@ -1,26 +1,28 @@
 #!/bin/sh
 # Runs a program that rt has built, on this script's standard input and output.
 #
-#   sh tools/run-program.sh PROGRAM <input
+#   sh tools/run-program.sh PROGRAM [WORD ..] <input
 #
 # Exit status: the program's own; 1 where it only said something on standard error; 2 where there is no program to run.
 set -u
 
 die() { echo "run-program: $*" >&2; exit 2; }
 
-[ $# -eq 1 ] || die "one program is wanted"
+[ $# -ge 1 ] || die "a program is wanted"
 program=$1
+shift
 [ -x "$program" ] || die "no program at $program"
 
 # Programs are compiled for x86-64: elsewhere the kit's emulator runs them, with the kit's C library.
-set -- "$program"
 if [ "$(uname -m)" != x86_64 ]; then
     doc=$(rt doc) || die "there is no rt on the PATH, by which to find the kit's emulator"
     tools=$(dirname -- "$(dirname -- "$doc")")/on/$(uname -m)/toolchain
     [ -x "$tools/bin/qemu-x86_64" ] || die "the kit has no emulator for this machine, $(uname -m)"
     # a caller's own settings of an emulator
     for name in $(env | sed -n 's/^\(QEMU_[A-Za-z0-9_]*\)=.*/\1/p'); do unset "$name"; done
-    set -- "$tools/bin/qemu-x86_64" "$tools/lib/ld-linux-x86-64.so.2" --library-path "$tools/lib" "$program"
+    set -- "$tools/bin/qemu-x86_64" "$tools/lib/ld-linux-x86-64.so.2" --library-path "$tools/lib" "$program" "$@"
+else
+    set -- "$program" "$@"
 fi
 
 # A program in Rattle has no exit status of its own: what it says on standard error, just before it ends, is the only sign

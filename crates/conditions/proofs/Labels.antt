@@ -1,16 +1,21 @@
 -- The tests of labels and of shared places hold exactly when what they are called does.
 use Prim.Native.Nat.{ℕ, _≤_}
 use mathlib.Core.Path.{_≡_, refl, sym, ap, _∙_}
-use mathlib.Core.Bool.{Bool, true, false, not, _&&_}
+use mathlib.Core.Bool.{Bool, true, false, not, cond, _&&_, _||_}
+use mathlib.Core.Logic.{_⊎_, inl, inr}
 use native.Mathlib.Omega.{arith}
 use lib.Dec.{eqb, leb}
 use lib.Bits.{bitAnd}
-use borrow.Author.Tests.{eqb-true, eqb-false, ne-eqb, leb-true, le-leb, not-true}
-use Rattle.label.specs.Labels.{contains}
-use Rattle.label.proofs.Sets.{contains-antisym}
-use Rattle.records.specs.Places.{has}
-use Rattle.records.proofs.Places.{has-and, has-none, contains-has, has-contains, some-place}
-use Rattle.conditions.specs.Conditions.{covers, same, shares}
+use borrow.Author.Tests.{eqb-true, eqb-false, eq-eqb, ne-eqb, leb-true, le-leb, not-true}
+use Rattle.label.specs.declared.Label.the-variants.{At}
+use Rattle.label.specs.Labels.{contains, dominates}
+use Rattle.records.specs.Places.{has, with, only}
+use Rattle.records.specs.House.{house}
+use Rattle.records.specs.declared.User.{User}
+use Rattle.records.specs.declared.Session.{Session}
+use Rattle.records.specs.declared.Draft.{Draft}
+use Rattle.records.proofs.Places.{has-and, has-none, has-with, has-only, contains-has, has-contains, some-place}
+use Rattle.conditions.specs.Conditions.{isStaff, isAt, shares, sees, seen, levelWithin, categoriesWithin}
 use Rattle.conditions.specs.Labels.{Exactly, Covered, Alike, Shared}
 
 clash : {A : Type 0} {b : Bool} → b ≡ true → b ≡ false → A
@@ -23,43 +28,31 @@ both false b = record { says = λ e. clash e refl; shown = λ e. e .0 }
 
 -- ---- 9
 module _ (level c level′ c′ : ℕ) where
-  tests : Exactly (covers level c level′ c′) ((leb level′ level ≡ true) × (contains c c′ ≡ true))
-  tests = both (leb level′ level) (contains c c′)
-
-  pub covered : Exactly (covers level c level′ c′) (Covered level c level′ c′)
+  pub covered : Exactly (levelWithin level′ level && categoriesWithin c′ c) (Covered level c level′ c′)
   covered = record {
-    says = λ t. record { no-higher = leb-true level′ level (tests .says t .0); contained = contains-has c c′ (tests .says t .1) };
+    says = λ t.
+        let z = tests .says t in
+        record { no-higher = leb-true level′ level (z .0); contained = contains-has c c′ (z .1) };
     shown = λ f. tests .shown (le-leb level′ level (f .no-higher), has-contains c c′ (f .contained));
   }
+    where
+      tests : Exactly (levelWithin level′ level && categoriesWithin c′ c) ((levelWithin level′ level ≡ true) × (categoriesWithin c′ c ≡ true))
+      tests = both (levelWithin level′ level) (categoriesWithin c′ c)
 
--- equal labels cover each other, and labels that cover each other are equal
-pub alike : (level c level′ c′ : ℕ) → Exactly (same level c level′ c′) (Alike level c level′ c′)
-alike level c level′ c′ = record { says = told; shown = shown }
-  where
-    ways : Exactly (same level c level′ c′) ((covers level c level′ c′ ≡ true) × (covers level′ c′ level c ≡ true))
-    ways = both (covers level c level′ c′) (covers level′ c′ level c)
+  -- as dominance has it of two labels at one place, whichever
+  pub as-dominance : (place : ℕ) → dominates (At place level c) (At place level′ c′) ≡ (levelWithin level′ level && categoriesWithin c′ c)
+  as-dominance place = rw (eq-eqb place place refl)
 
-    told : same level c level′ c′ ≡ true → Alike level c level′ c′
-    told t =
-        let over = tests level c level′ c′ .says (ways .says t .0) in
-        let under = tests level′ c′ level c .says (ways .says t .1) in
-        let lower = leb-true level′ level (over .0) in
-        let higher = leb-true level level′ (under .0) in
-        record {
-          level-alike = omega arith;
-          categories-alike = contains-antisym c c′ (eqb-true (bitAnd c c′) c′ (over .1)) (eqb-true (bitAnd c′ c) c (under .1));
-        }
-
-    itself : Covered level c level c
-    itself = record { no-higher = omega arith; contained = λ q h. h }
-
-    shown : Alike level c level′ c′ → same level c level′ c′ ≡ true
-    shown f =
-        let t = covered level c level c .shown itself in
-        by (f .level-alike) (f .categories-alike) (both (covers level c level c) (covers level c level c) .shown (t, t))
-      where
-        by : level ≡ level′ → c ≡ c′ → same level c level c ≡ true → same level c level′ c′ ≡ true
-        by l k t = rw (← l, ← k) t
+  pub alike : Exactly (eqb level level′ && eqb c c′) (Alike level c level′ c′)
+  alike = record {
+    says = λ t.
+        let z = tests .says t in
+        record { level-alike = eqb-true level level′ (z .0); categories-alike = eqb-true c c′ (z .1) };
+    shown = λ f. tests .shown (eq-eqb level level′ (f .level-alike), eq-eqb c c′ (f .categories-alike));
+  }
+    where
+      tests : Exactly (eqb level level′ && eqb c c′) ((eqb level level′ ≡ true) × (eqb c c′ ≡ true))
+      tests = both (eqb level level′) (eqb c c′)
 
 -- ---- 8
 pub shared : (a b : ℕ) → Exactly (shares a b) (Shared a b)
@@ -76,3 +69,68 @@ shared a b = record { says = told; shown = shown }
         let p = s .place in
         let there : has (bitAnd a b) p ≡ true = has-and a b p ∙ both (has a p) (has b p) .shown (s .of-first, s .of-second) in
         ap not (ne-eqb (bitAnd a b) 0 (λ e. clash there (ap (λ (x : ℕ). has x p) e ∙ has-none p)))
+
+-- the set that is wanted at a Read: a draft is seen exactly where one of its places is in it
+or-true : (a b : Bool) → (a || b) ≡ true → (a ≡ true) ⊎ (b ≡ true)
+or-true true b e = inl refl
+or-true false b e = inr e
+
+or-left : (a b : Bool) → a ≡ true → (a || b) ≡ true
+or-left a b e = rw e
+
+or-right : (a b : Bool) → b ≡ true → (a || b) ≡ true
+or-right true b e = refl
+or-right false b e = e
+
+-- of the places a, where p alone is wanted
+pub among-exactly : (a p : ℕ) → p ≤ 31 → Exactly (has a p) (Shared a (only p))
+among-exactly a p le = record {
+  says = λ t. record { place = p; of-first = t; of-second = has-only p le p ∙ eq-eqb p p refl };
+  shown = λ s. at (s .place) (s .of-first) (eqb-true p (s .place) (sym (has-only p le (s .place)) ∙ s .of-second));
+}
+  where
+    at : (q : ℕ) → has a q ≡ true → p ≡ q → has a p ≡ true
+    at q h e = rw e h
+
+-- of the places a, where the rooms b are wanted, and the house too
+with-house : (a b : ℕ) → Exactly (shares a b || (has a house && true)) (Shared a (with b house))
+with-house a b = record {
+  says = λ t. go (or-true (shares a b) (has a house && true) t);
+  shown = λ s. back (s .place) (s .of-first) (or-true (eqb house (s .place)) (has b (s .place)) (sym (has-with b house (omega arith) (s .place)) ∙ s .of-second));
+}
+  where
+    go : (shares a b ≡ true) ⊎ ((has a house && true) ≡ true) → Shared a (with b house)
+    go (inl t) =
+        let s = shared a b .says t in
+        record { place = s .place; of-first = s .of-first; of-second = has-with b house (omega arith) (s .place) ∙ or-right (eqb house (s .place)) (has b (s .place)) (s .of-second) }
+    go (inr t) = record { place = house; of-first = both (has a house) true .says t .0; of-second = has-with b house (omega arith) house }
+
+    back : (q : ℕ) → has a q ≡ true → (eqb house q ≡ true) ⊎ (has b q ≡ true) → (shares a b || (has a house && true)) ≡ true
+    back q h (inl e) = or-right (shares a b) (has a house && true) (both (has a house) true .shown (at (eqb-true house q e), refl))
+      where
+        at : house ≡ q → has a house ≡ true
+        at z = rw z h
+    back q h (inr t) = or-left (shares a b) (has a house && true) (shared a b .shown (record { place = q; of-first = h; of-second = t }))
+
+without-house : (a b : ℕ) → Exactly (shares a b || (has a house && false)) (Shared a b)
+without-house a b = record {
+  says = λ t. go (or-true (shares a b) (has a house && false) t);
+  shown = λ s. or-left (shares a b) (has a house && false) (shared a b .shown s);
+}
+  where
+    go : (shares a b ≡ true) ⊎ ((has a house && false) ≡ true) → Shared a b
+    go (inl t) = shared a b .says t
+    go (inr t) = clash (both (has a house) false .says t .1) refl
+
+module _ (s : Session) (owner : User) (d : Draft) where
+  -- by an RO session
+  pub seen-exactly : s .writes ≡ false → Exactly (sees s owner d) (Shared (d .places) (seen s owner))
+  seen-exactly e = rw e (go (isStaff owner))
+    where
+      go : (b : Bool) → Exactly (shares (d .places) (owner .rooms) || (isAt d house && b)) (Shared (d .places) (cond b (with (owner .rooms) house) (owner .rooms)))
+      go true = with-house (d .places) (owner .rooms)
+      go false = without-house (d .places) (owner .rooms)
+
+  -- by an RW session, which has its one place
+  pub seated-exactly : s .writes ≡ true → s .place ≤ 31 → Exactly (sees s owner d) (Shared (d .places) (seen s owner))
+  seated-exactly e le = rw e (among-exactly (d .places) (s .place) le)

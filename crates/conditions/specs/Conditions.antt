@@ -2,18 +2,33 @@
 use Prim.Native.Nat.{ℕ}
 use mathlib.Core.Bool.{Bool, not, cond, _&&_, _||_}
 use lib.Bits.{bitAnd}
-use lib.Dec.{eqb, ltb}
+use lib.Dec.{eqb, leb, ltb}
 use lib.ListN.{length}
-use Rattle.label.specs.declared.Label.{Label}
-use Rattle.label.specs.declared.Label.the-variants.{At}
-use Rattle.label.specs.Labels.{dominates}
+use Rattle.label.specs.Labels.{contains}
 use Rattle.records.specs.Lists.{any}
-use Rattle.records.specs.Places.{has}
-use Rattle.records.specs.House.{House, house, staff, freelancer}
+use Rattle.records.specs.Places.{has, with, only}
+use Rattle.records.specs.House.{House, house, staff, freelancer, user, script, session}
+use Rattle.records.specs.Lookups.{draftIs}
 use Rattle.records.specs.declared.User.{User}
 use Rattle.records.specs.declared.Script.{Script}
 use Rattle.records.specs.declared.Session.{Session}
 use Rattle.records.specs.declared.Draft.{Draft}
+
+-- ---- 4: "a user, room, script, session, or draft of that script, that must exist"
+abbrev pub isUser : House → ℕ → Bool
+isUser h u = user h u .here
+
+abbrev pub isRoom : House → ℕ → Bool
+isRoom h room = has (h .rooms) room
+
+abbrev pub isScript : House → ℕ → Bool
+isScript h k = script h k .here
+
+abbrev pub isSession : House → ℕ → Bool
+isSession h s = session h s .here
+
+abbrev pub isDraft : House → ℕ → ℕ → Bool
+isDraft h k v = any (draftIs k v) (h .drafts)
 
 -- ---- "On a desk without users"
 abbrev pub noUsers : House → Bool
@@ -53,9 +68,6 @@ isSeated s d = isAt d (s .place)
 abbrev pub ofOrigin : Script → ℕ → Bool
 ofOrigin s place = eqb (s .origin) place
 
-abbrev pub ofHouse : Script → Bool
-ofHouse s = ofOrigin s house
-
 -- a place shared by two sets
 abbrev pub shares : ℕ → ℕ → Bool
 shares a b = not (eqb (bitAnd a b) 0)
@@ -64,32 +76,18 @@ shares a b = not (eqb (bitAnd a b) 0)
 abbrev pub sees : Session → User → Draft → Bool
 sees s owner d = cond (s .writes) (isSeated s d) (shares (d .places) (owner .rooms) || (isAt d house && isStaff owner))
 
--- ---- 9: "In all of 9 only level and categories count, never the place": labels at one place
-abbrev pub labelOf : ℕ → ℕ → Label
-labelOf level c = At house level c
+-- where a session sees drafts: an RW session at its place, an RO session in its owner's rooms, and in the house where the owner is staff
+abbrev pub seen : Session → User → ℕ
+seen s owner = cond (s .writes) (only (s .place)) (cond (isStaff owner) (with (owner .rooms) house) (owner .rooms))
 
-abbrev pub covers : ℕ → ℕ → ℕ → ℕ → Bool
-covers level c level' c' = dominates (labelOf level c) (labelOf level' c')
+-- ---- 9: "In all of 9 only level and categories count, never the place". What "differ" is no more than equality.
+-- "opening above the owner's level", "Read not covered"
+abbrev pub levelWithin : ℕ → ℕ → Bool
+levelWithin under over = leb under over
 
--- "opening above the owner's level or with more categories"
-abbrev pub opens : User → ℕ → ℕ → Bool
-opens owner level c = covers (owner .level) (owner .categories) level c
-
--- two labels that do not "differ"
-abbrev pub same : ℕ → ℕ → ℕ → ℕ → Bool
-same level c level' c' = covers level c level' c' && covers level' c' level c
-
--- "Read not covered"
-abbrev pub coversScript : Session → Script → Bool
-coversScript s k = covers (s .level) (s .categories) (k .level) (k .categories)
-
--- "session and script differ"
-abbrev pub sameAsScript : Session → Script → Bool
-sameAsScript s k = same (s .level) (s .categories) (k .level) (k .categories)
-
--- "the scripts differ"
-abbrev pub sameScripts : Script → Script → Bool
-sameScripts j k = same (j .level) (j .categories) (k .level) (k .categories)
+-- "or with more categories"
+abbrev pub categoriesWithin : ℕ → ℕ → Bool
+categoriesWithin under over = contains over under
 
 -- ---- 10: "with 256 live drafts"
 abbrev pub draftRoom : House → Bool

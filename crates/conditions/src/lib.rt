@@ -1,8 +1,7 @@
 // The facts that 01's refusal table asks of the records. The judge asks them in their order, after those of a request's own fields.
 ghost use mathlib.Core.Path.{_≡_};
 ghost use Rattle.records.specs.House.{view, user, script, session, draftAt};
-ghost use Rattle.conditions.specs.Conditions.{noUsers, leads, isStaff, isFreelancer, mayKill, isIn, isAt, isSeated, ofOrigin, ofHouse, sees, covers, opens, same, coversScript, sameAsScript, sameScripts, draftRoom};
-use label::Label;
+ghost use Rattle.conditions.specs.Conditions.{noUsers, leads, isStaff, isFreelancer, mayKill, isIn, isAt, isSeated, ofOrigin, sees, seen, levelWithin, categoriesWithin, draftRoom};
 use records::Cells;
 
 // ---- of the users: i is a user's place
@@ -23,13 +22,6 @@ pub fn is_user(records: &Cells, i: usize) -> bool
 {
     let user = records::user_at(records, i);
     user.here
-}
-
-pub fn is_admin(records: &Cells, i: usize) -> bool
-    ensures { λ r. ⌜ r ≡ user (view (now (records .entry))) i .admin ⌝ }
-{
-    let user = records::user_at(records, i);
-    user.admin
 }
 
 pub fn is_staff(records: &Cells, i: usize) -> bool
@@ -61,25 +53,11 @@ pub fn is_in(records: &Cells, i: usize, room: u8) -> bool
 }
 
 // ---- of scripts, sessions and drafts: k, s and d are their places
-pub fn of_house(records: &Cells, k: usize) -> bool
-    ensures { λ r. ⌜ r ≡ ofHouse (script (view (now (records .entry))) k) ⌝ }
-{
-    let script = records::script_at(records, k);
-    script.origin == 0
-}
-
 pub fn of_origin(records: &Cells, k: usize, room: u8) -> bool
     ensures { λ r. ⌜ r ≡ ofOrigin (script (view (now (records .entry))) k) room ⌝ }
 {
     let script = records::script_at(records, k);
     script.origin == room
-}
-
-pub fn writes(records: &Cells, s: usize) -> bool
-    ensures { λ r. ⌜ r ≡ session (view (now (records .entry))) s .writes ⌝ }
-{
-    let session = records::session_at(records, s);
-    session.writes
 }
 
 pub fn is_at(records: &Cells, d: usize, place: u8) -> bool
@@ -130,68 +108,30 @@ pub fn sees(records: &Cells, s: usize, d: usize) -> bool
     shares | at_home & staff
 }
 
-// ---- of labels: only level and categories count, so the places are held equal. The one function that asks dominance.
-fn covers(level1: u8, categories1: u16, level2: u8, categories2: u16) -> bool
-    ensures { λ r. ⌜ r ≡ covers level1 categories1 level2 categories2 ⌝ }
-{
-    let over = Label::At {
-        place: 0,
-        level: level1,
-        categories: categories1,
-    };
-    let under = Label::At {
-        place: 0,
-        level: level2,
-        categories: categories2,
-    };
-    over.dominates(under)
-}
-
-fn same(level1: u8, categories1: u16, level2: u8, categories2: u16) -> bool
-    ensures { λ r. ⌜ r ≡ same level1 categories1 level2 categories2 ⌝ }
-{
-    let over = covers(level1, categories1, level2, categories2);
-    let under = covers(level2, categories2, level1, categories1);
-    over & under
-}
-
-pub fn opens(records: &Cells, i: usize, level: u8, categories: u16) -> bool
-    ensures { λ r. ⌜ r ≡ opens (user (view (now (records .entry))) i) level categories ⌝ }
-{
-    let owner = records::user_at(records, i);
-    covers(owner.level, owner.categories, level, categories)
-}
-
-pub fn covers_script(records: &Cells, s: usize, k: usize) -> bool
-    ensures { λ r. ⌜ r ≡ coversScript (session (view (now (records .entry))) s) (script (view (now (records .entry))) k) ⌝ }
+// Where a session sees drafts: a set of places.
+pub fn seen(records: &Cells, s: usize) -> u32
+    ensures { λ r. ⌜ r ≡ seen (session (view (now (records .entry))) s) (user (view (now (records .entry))) (session (view (now (records .entry))) s .owner)) ⌝ }
 {
     let session = records::session_at(records, s);
-    let script = records::script_at(records, k);
-    covers(
-        session.level,
-        session.categories,
-        script.level,
-        script.categories,
-    )
+    if session.writes {
+        return records::with(0, session.place);
+    }
+    let owner = records::user_at(records, session.owner as usize);
+    if owner.here & (owner.sort == 0) {
+        return records::with(owner.rooms, 0);
+    }
+    owner.rooms
 }
 
-pub fn same_as_script(records: &Cells, s: usize, k: usize) -> bool
-    ensures { λ r. ⌜ r ≡ sameAsScript (session (view (now (records .entry))) s) (script (view (now (records .entry))) k) ⌝ }
+// ---- of labels: level and categories apart
+pub fn level_within(under: u8, over: u8) -> bool
+    ensures { λ r. ⌜ r ≡ levelWithin under over ⌝ }
 {
-    let session = records::session_at(records, s);
-    let script = records::script_at(records, k);
-    same(
-        session.level,
-        session.categories,
-        script.level,
-        script.categories,
-    )
+    under <= over
 }
 
-pub fn same_scripts(records: &Cells, j: usize, k: usize) -> bool
-    ensures { λ r. ⌜ r ≡ sameScripts (script (view (now (records .entry))) j) (script (view (now (records .entry))) k) ⌝ }
+pub fn categories_within(under: u16, over: u16) -> bool
+    ensures { λ r. ⌜ r ≡ categoriesWithin under over ⌝ }
 {
-    let from = records::script_at(records, j);
-    let to = records::script_at(records, k);
-    same(from.level, from.categories, to.level, to.categories)
+    over & under == under
 }

@@ -16,10 +16,10 @@ use Rattle.history.specs.Desk.{deskRules}
 use Rattle.history.specs.declared.Answer.{Answer}
 use Rattle.batch.specs.Batch.{Result, bytesOf, runOver, runBatch}
 use Rattle.batch.proofs.Steps.{at-most-five, answered, over-unknown, over-cut, over-request}
-use Rattle.desk.specs.Answers.{Given, withKinds, atEnd, givenTo, given, answersIn}
+use Rattle.desk.specs.Answers.{Given, replies, atEnd, givenTo, given, answersIn}
 
 -- ---- the program
-of-the-run : (d : Desk House Change) (qs : List Request) (gs : List Given) → answersIn (withKinds qs (answers deskRules d qs) ++ gs) ≡ answers deskRules d qs ++ answersIn gs
+of-the-run : (d : Desk House Change) (qs : List Request) (gs : List Given) → answersIn (replies d qs ++ gs) ≡ answers deskRules d qs ++ answersIn gs
 of-the-run d [] gs = refl
 of-the-run d (q ∷ qs) gs = ap (λ (l : List Answer). step deskRules d q .answer ∷ l) (of-the-run (step deskRules d q .desk) qs gs)
 

@@ -1,4 +1,4 @@
--- The laws that the functions' proofs cite, what is printed for an input in pieces, three lines worked out, and that the batch agrees.
+-- The laws that the functions' proofs cite, what is printed for an input in pieces, five lines worked out, and that the batch agrees.
 pub mod Texts
 pub mod Frames
 pub mod Steps

@@ -15,41 +15,41 @@ use Rattle.desk.specs.Turns.{Stand, stand, first, Turned, turn, standAft
 use Rattle.desk.specs.declared.pieces.Turn.{Turn}
 use Rattle.desk.proofs.Steps.{part-length, ordinal-near, few-waiting}
 
-pub record Reached (s : Stand) : Type 0 where
+pub record Reached (why : Bool) (s : Stand) : Type 0 where
   pub pieces : List (List ℕ)
-  pub went : wentOn first pieces ≡ true
-  pub is : standAfter first pieces ≡ s
+  pub went : wentOn why first pieces ≡ true
+  pub is : standAfter why first pieces ≡ s
 
-after-one-more : (s : Stand) (pieces : List (List ℕ)) (piece : List ℕ) → standAfter s (pieces ++ (piece ∷ [])) ≡ turn (standAfter s pieces) piece .next
-after-one-more s [] piece = refl
-after-one-more s (p ∷ more) piece = after-one-more (turn s p .next) more piece
+after-one-more : (why : Bool) (s : Stand) (pieces : List (List ℕ)) (piece : List ℕ) → standAfter why s (pieces ++ (piece ∷ [])) ≡ turn why (standAfter why s pieces) piece .next
+after-one-more why s [] piece = refl
+after-one-more why s (p ∷ more) piece = after-one-more why (turn why s p .next) more piece
 
-went-one-more : (s : Stand) (pieces : List (List ℕ)) (piece : List ℕ) → wentOn s pieces ≡ true → turn (standAfter s pieces) piece .onward ≡ true → wentOn s (pieces ++ (piece ∷ [])) ≡ true
-went-one-more s [] piece w on = rw on refl
-went-one-more s (p ∷ more) piece w on = go (turn s p .onward) w (λ v. went-one-more (turn s p .next) more piece v on)
+went-one-more : (why : Bool) (s : Stand) (pieces : List (List ℕ)) (piece : List ℕ) → wentOn why s pieces ≡ true → turn why (standAfter why s pieces) piece .onward ≡ true → wentOn why s (pieces ++ (piece ∷ [])) ≡ true
+went-one-more why s [] piece w on = rw on refl
+went-one-more why s (p ∷ more) piece w on = go (turn why s p .onward) w (λ v. went-one-more why (turn why s p .next) more piece v on)
   where
-    go : (g : Bool) → g && wentOn (turn s p .next) more ≡ true → (wentOn (turn s p .next) more ≡ true → wentOn (turn s p .next) (more ++ (piece ∷ [])) ≡ true)
-        → g && wentOn (turn s p .next) (more ++ (piece ∷ [])) ≡ true
+    go : (g : Bool) → g && wentOn why (turn why s p .next) more ≡ true → (wentOn why (turn why s p .next) more ≡ true → wentOn why (turn why s p .next) (more ++ (piece ∷ [])) ≡ true)
+        → g && wentOn why (turn why s p .next) (more ++ (piece ∷ [])) ≡ true
     go true w rest = rest w
     go false w rest = w
 
-reached-on : (s : Stand) → Reached s → (piece : List ℕ) → turn s piece .onward ≡ true → Reached (turn s piece .next)
-reached-on s r piece on =
+reached-on : (why : Bool) (s : Stand) → Reached why s → (piece : List ℕ) → turn why s piece .onward ≡ true → Reached why (turn why s piece .next)
+reached-on why s r piece on =
     record {
       pieces = r .pieces ++ (piece ∷ []);
-      went = went-one-more first (r .pieces) piece (r .went) (ap (λ (x : Stand). turn x piece .onward) (r .is) ∙ on);
-      is = after-one-more first (r .pieces) piece ∙ ap (λ (x : Stand). turn x piece .next) (r .is);
+      went = went-one-more why first (r .pieces) piece (r .went) (ap (λ (x : Stand). turn why x piece .onward) (r .is) ∙ on);
+      is = after-one-more why first (r .pieces) piece ∙ ap (λ (x : Stand). turn why x piece .next) (r .is);
     }
 
-pub record Between (d : Desk House Change) (ordinal have turns : ℕ) (buf out : List ℕ) : Type 0 where
+pub record Between (why : Bool) (d : Desk House Change) (ordinal have turns : ℕ) (buf out : List ℕ) : Type 0 where
   pub few : have ≤ 8
   pub buf-length : length buf ≡ 1024
-  pub out-length : length out ≡ 65536
+  pub out-length : length out ≡ 139264
   pub small : ordinal + 1024 * turns ≤ 1 + 1024 * 1125899906842624
-  pub reached : Reached (stand d ordinal (take have buf))
+  pub reached : Reached why (stand d ordinal (take have buf))
 
-pub at-start : {d : Desk House Change} → d ≡ opened deskRules 0 → (buf out : List ℕ) → length buf ≡ 1024 → length out ≡ 65536 → Between d 1 0 1125899906842624 buf out
-at-start e buf out b o =
+pub at-start : (why : Bool) {d : Desk House Change} → d ≡ opened deskRules 0 → (buf out : List ℕ) → length buf ≡ 1024 → length out ≡ 139264 → Between why d 1 0 1125899906842624 buf out
+at-start why e buf out b o =
     record {
       few = omega arith;
       buf-length = b;
@@ -79,23 +79,23 @@ text-there {r = r} {out = out} is =
     (omega (arith, size, length-take (r .text) out), size)
 
 -- a piece was read: buf is now `read`, with the bytes that wait as they were
-module _ {d : Desk House Change} {ordinal have turns : ℕ} {buf out : List ℕ} (between : Between d ordinal have turns buf out) (read : List ℕ) (same : take have read ≡ take have buf)
+module _ {why : Bool} {d : Desk House Change} {ordinal have turns : ℕ} {buf out : List ℕ} (between : Between why d ordinal have turns buf out) (read : List ℕ) (same : take have read ≡ take have buf)
     (got : ℕ) (room : have + got ≤ length read) (read-length : length read ≡ 1024)
-    {d′ : Desk House Change} (r : Turn) (buf′ out′ : List ℕ) (is : TurnIs (turn (stand d ordinal (take have read)) (take got (drop have read))) d′ r buf′ out′)
+    {d′ : Desk House Change} (r : Turn) (buf′ out′ : List ℕ) (is : TurnIs (turn why (stand d ordinal (take have read)) (take got (drop have read))) d′ r buf′ out′)
   where
-    pub again : 0 < turns → length buf′ ≡ 1024 → length out′ ≡ 65536 → r .onward ≡ true → Between d′ (r .ordinal) (r .have) (turns - 1) buf′ out′
+    pub again : 0 < turns → length buf′ ≡ 1024 → length out′ ≡ 139264 → r .onward ≡ true → Between why d′ (r .ordinal) (r .have) (turns - 1) buf′ out′
     again some b o on =
         let s : Stand = stand d ordinal (take have read) in
         let piece : List ℕ = take got (drop have read) in
-        let goes : turn s piece .onward ≡ true = sym (is .onward) ∙ on in
-        let near = ordinal-near d ordinal read have got room in
+        let goes : turn why s piece .onward ≡ true = sym (is .onward) ∙ on in
+        let near = ordinal-near why d ordinal read have got room in
         record {
-          few = omega (arith, is .have, few-waiting d ordinal read have got room goes);
+          few = omega (arith, is .have, few-waiting why d ordinal read have got room goes);
           buf-length = b;
           out-length = o;
           small = omega (arith, between .small, is .ordinal, near, room, read-length, some);
           reached =
-              let here : Reached s = subst (λ (w : List ℕ). Reached (stand d ordinal w)) (sym same) (between .reached) in
-              let next : turn s piece .next ≡ stand d′ (r .ordinal) (take (r .have) buf′) = λ i. stand (sym (is .desk) i) (sym (is .ordinal) i) (sym (is .waiting) i) in
-              subst Reached next (reached-on s here piece goes);
+              let here : Reached why s = subst (λ (w : List ℕ). Reached why (stand d ordinal w)) (sym same) (between .reached) in
+              let next : turn why s piece .next ≡ stand d′ (r .ordinal) (take (r .have) buf′) = λ i. stand (sym (is .desk) i) (sym (is .ordinal) i) (sym (is .waiting) i) in
+              subst (Reached why) next (reached-on why s here piece goes);
         }

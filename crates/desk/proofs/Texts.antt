@@ -1,7 +1,7 @@
 -- Numbers in decimal, texts put into a buffer, and bytes moved to its front.
 use mathlib.Core.Path.{_≡_, refl, sym, ap, _∙_, subst}
 use mathlib.Core.Bool.{Bool, true, false, cond}
-use mathlib.Core.List.{List, _++_, append-assoc}
+use mathlib.Core.List.{List, [], _++_, append-assoc, append-nil}
 use Prim.Native.Nat.{ℕ, zero, suc, _+_, _-_, _/_, _^_, _≤_, _<_}
 use native.Mathlib.Omega.{arith}
 use native.Mathlib.Nat.{zero-add, add-comm, pow-le-pow-right}
@@ -14,7 +14,9 @@ use borrow.Author.Tests.{ltb-true, ltb-false}
 use Rattle.io.specs.Digits.{digits, Fewest}
 use Rattle.history.specs.declared.Answer.{Answer}
 use Rattle.history.specs.declared.Answer.the-variants.{Granted, Numbered, Refused}
-use Rattle.desk.specs.Lines.{placesTo, decimal, numberText, lineOf, Put}
+use Rattle.reasons.specs.Reasons.{zeros}
+use Rattle.reasons.specs.declared.Reason.{Reason}
+use Rattle.desk.specs.Lines.{placesTo, decimal, numberText, reasonText, lineOf, Put}
 
 -- ---- decimal digits
 digits-count : (k n : ℕ) → length (digits 10 k n) ≡ k
@@ -65,12 +67,28 @@ number-short Granted = omega arith
 number-short (Numbered n) = decimal-short n
 number-short (Refused n) = omega arith
 
-pub line-short : (k kind : ℕ) (a : Answer) → length (lineOf k kind a) ≤ 64
+pub reason-short : (why : Bool) (r : Reason) → length (cond why (reasonText r) []) ≤ 87
+reason-short true r =
+    let a = decimal-short (r .number) in
+    let b = decimal-short (r .id) in
+    let c = decimal-short (r .held) in
+    let d = decimal-short (r .wanted) in
+    simp length-append (omega arith)
+reason-short false r = omega arith
+
+pub line-short : (why : Bool) (k kind : ℕ) (a : Answer) (r : Reason) → length (lineOf why k kind a r) ≤ 136
 unfolding lineOf
-line-short k kind a =
+line-short why k kind a r =
     let d = decimal-short k in
     let n = number-short a in
+    let w = reason-short why r in
     simp length-append (omega arith)
+
+-- a reason that is not asked for is not printed
+pub if-asked : (why : Bool) (k kind : ℕ) (a : Answer) (r : Reason) → lineOf why k kind a (cond why r zeros) ≡ lineOf why k kind a r
+unfolding lineOf
+if-asked true k kind a r = refl
+if-asked false k kind a r = refl
 
 -- ---- texts one after the other
 pub then : {O O₁ O₂ s t : List ℕ} {at a b : ℕ} → Put O at s a O₁ → Put O₁ a t b O₂ → Put O at (s ++ t) b O₂
@@ -79,6 +97,9 @@ then {O = O} {s = s} {t = t} {at = at} p q =
       ends = let e = q .ends in let f = p .ends in simp length-append (omega arith);
       is = q .is ∙ ap (λ (x : List ℕ). x ++ t) (p .is) ∙ append-assoc (take at O) s t;
     }
+
+pub put-nothing : (O : List ℕ) (at : ℕ) → Put O at [] at O
+put-nothing O at = record { ends = omega arith; is = sym (append-nil (take at O)) }
 
 pub put-as : {O O′ s t : List ℕ} {at b : ℕ} → s ≡ t → Put O at s b O′ → Put O at t b O′
 put-as {O = O} {O′ = O′} {at = at} {b = b} e p = subst (λ (x : List ℕ). Put O at x b O′) e p

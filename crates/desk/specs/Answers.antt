@@ -1,44 +1,52 @@
--- The answers to an input, one after the other, each with the kind that it answers.
+-- The answers to an input, one after the other, each with the kind that it answers and its reason.
 use Prim.Native.Nat.{ℕ}
 use mathlib.Core.Bool.{Bool, true, cond}
 use mathlib.Core.List.{List, [], _∷_, _++_}
+use lib.ListN.{length}
 use Rattle.request.specs.Framing.{End, no-bytes, unknown-kind, cut-body, Series, seriesOf, kindOf}
 use Rattle.request.specs.declared.Request.{Request}
 use Rattle.records.specs.House.{House}
 use Rattle.effects.specs.declared.Change.{Change}
-use Rattle.history.specs.Machine.{Desk, answers}
+use Rattle.history.specs.Machine.{Desk, step}
 use Rattle.history.specs.Desk.{deskRules}
 use Rattle.history.specs.declared.Answer.{Answer}
 use Rattle.history.specs.declared.Answer.the-variants.{Refused}
+use Rattle.reasons.specs.Reasons.{bare}
+use Rattle.reasons.specs.declared.Reason.{Reason}
+use Rattle.why.specs.Why.{reasonOf}
 
 pub record Given : Type 0 where
   pub kind : ℕ
   pub answer : Answer
+  pub reason : Reason
 
-abbrev pub reply : ℕ → Answer → Given
-reply kind answer = record { kind = kind; answer = answer }
+abbrev pub reply : ℕ → Answer → Reason → Given
+reply kind answer reason = record { kind = kind; answer = answer; reason = reason }
 
--- the answers to requests, each with its request's kind
-abbrev pub withKinds : List Request → List Answer → List Given
-withKinds [] more = []
-withKinds (q ∷ qs) [] = []
-withKinds (q ∷ qs) (a ∷ more) = reply (kindOf q) a ∷ withKinds qs more
+-- the reason of a request is that of the desk as it stands before the request
+abbrev pub reasonFor : Desk House Change → Request → Reason
+reasonFor d q = reasonOf (d .current) (d .last) (length (d .log)) q
 
--- "unknown kind or cut body", where no whole request stands; a request is cut only if the input has ended, until then it waits
+-- the answers of the desk d to requests, each with its request's kind
+abbrev pub replies : Desk House Change → List Request → List Given
+replies d [] = []
+replies d (q ∷ qs) = reply (kindOf q) (step deskRules d q .answer) (reasonFor d q) ∷ replies (step deskRules d q .desk) qs
+
+-- "unknown kind or cut body", where no whole request stands; a request is cut only if the input has ended, until then it waits. No record decides there
 abbrev pub atEnd : Bool → End → List Given
 atEnd ended no-bytes = []
-atEnd ended (unknown-kind kind) = reply kind (Refused 1) ∷ []
-atEnd ended (cut-body kind) = cond ended (reply kind (Refused 2) ∷ []) []
+atEnd ended (unknown-kind kind) = reply kind (Refused 1) (bare 1) ∷ []
+atEnd ended (cut-body kind) = cond ended (reply kind (Refused 2) (bare 2) ∷ []) []
 
 -- the answers of the desk d to a series
 abbrev pub givenTo : Bool → Desk House Change → Series → List Given
-givenTo ended d s = withKinds (s .requests) (answers deskRules d (s .requests)) ++ atEnd ended (s .end)
+givenTo ended d s = replies d (s .requests) ++ atEnd ended (s .end)
 
 -- and to a whole input
 abbrev pub given : Desk House Change → List ℕ → List Given
 given d input = givenTo true d (seriesOf input)
 
--- without the kinds
+-- without the kinds and reasons
 abbrev pub answersIn : List Given → List Answer
 answersIn [] = []
 answersIn (g ∷ gs) = g .answer ∷ answersIn gs

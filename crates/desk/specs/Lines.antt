@@ -1,7 +1,9 @@
 -- The line that is printed for an answer. 01: "ordinal (decimal), kind and answer byte (two hex digits), draft number (decimal) or a dash, one space between".
+-- Where the reasons are asked for: "The line of 01, then five parts more: the refusal's number (decimal, 0 for a grant), the record's kind (two hex digits), its id
+-- or number, the first value, the second value (decimal), one space between."
 use Prim.Native.Nat.{ℕ, zero, suc, _+_, _/_, _%_, _^_}
 use mathlib.Core.Path.{_≡_}
-use mathlib.Core.Bool.{cond}
+use mathlib.Core.Bool.{Bool, cond}
 use mathlib.Core.List.{List, [], _∷_, _++_}
 use lib.Dec.{ltb}
 use lib.ListN.{length, take}
@@ -9,6 +11,7 @@ use Rattle.io.specs.Digits.{digits}
 use Rattle.history.specs.Desk.{answerByte}
 use Rattle.history.specs.declared.Answer.{Answer}
 use Rattle.history.specs.declared.Answer.the-variants.{Granted, Numbered, Refused}
+use Rattle.reasons.specs.declared.Reason.{Reason}
 
 -- how many decimal digits n has, if these are at most m + 1: one more than the largest k up to m with 10 ^ k ≤ n
 unfoldable pub placesTo : ℕ → ℕ → ℕ
@@ -37,8 +40,20 @@ numberText Granted = 45 ∷ []
 numberText (Numbered n) = decimal n
 numberText (Refused n) = 45 ∷ []
 
-unfoldable pub lineOf : ℕ → ℕ → Answer → List ℕ
-lineOf ordinal kind answer = decimal ordinal ++ middleOf kind (answerByte answer) ++ numberText answer ++ (10 ∷ [])
+-- a part more, with the space before it: a number in decimal, or the kind of a record
+abbrev pub numberPart : ℕ → List ℕ
+numberPart n = 32 ∷ decimal n
+
+abbrev pub kindPart : ℕ → List ℕ
+kindPart kind = 32 ∷ hex kind []
+
+abbrev pub reasonText : Reason → List ℕ
+reasonText r = numberPart (r .number) ++ kindPart (r .kind) ++ numberPart (r .id) ++ numberPart (r .held) ++ numberPart (r .wanted)
+
+-- `why` is whether the reasons are asked for
+unfoldable pub lineOf : Bool → ℕ → ℕ → Answer → Reason → List ℕ
+lineOf why ordinal kind answer reason =
+    decimal ordinal ++ middleOf kind (answerByte answer) ++ numberText answer ++ cond why (reasonText reason) [] ++ (10 ∷ [])
 
 -- a text was put behind the first `at` bytes, and now ends at `next`
 pub record Put (before : List ℕ) (at : ℕ) (text : List ℕ) (next : ℕ) (after : List ℕ) : Type 0 where

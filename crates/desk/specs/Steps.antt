@@ -13,7 +13,9 @@ use Rattle.effects.specs.declared.Change.{Change}
 use Rattle.history.specs.Machine.{Desk, step}
 use Rattle.history.specs.Desk.{deskRules}
 use Rattle.history.specs.declared.Answer.the-variants.{Refused}
+use Rattle.reasons.specs.Reasons.{bare}
 use Rattle.desk.specs.Lines.{lineOf, Put}
+use Rattle.desk.specs.Answers.{reasonFor}
 use Rattle.desk.specs.Turns.{Done}
 use Rattle.desk.specs.declared.answers.Progress.{Progress}
 
@@ -24,11 +26,11 @@ abbrev pub done : Desk House Change → ℕ → ℕ → List ℕ → Bool → Do
 done d k used text onward = record { desk = d; ordinal = k; used = used; text = text; onward = onward }
 
 -- the first request of the bytes b, of which there is one at least
-abbrev pub oneOf : Bool → Desk House Change → ℕ → List ℕ → Done
-oneOf ended d k b =
-    byFrame (frameOf b) (done d (k + 1) 0 (lineOf k (b # 0) (Refused 1)) false)
-    (cond ended (done d (k + 1) 0 (lineOf k (b # 0) (Refused 2)) false) (done d k 0 [] true))
-    (λ (q : Request). done (step deskRules d q .desk) (k + 1) (suc (bodyLength (b # 0))) (lineOf k (b # 0) (step deskRules d q .answer)) true)
+abbrev pub oneOf : Bool → Bool → Desk House Change → ℕ → List ℕ → Done
+oneOf why ended d k b =
+    byFrame (frameOf b) (done d (k + 1) 0 (lineOf why k (b # 0) (Refused 1) (bare 1)) false)
+    (cond ended (done d (k + 1) 0 (lineOf why k (b # 0) (Refused 2) (bare 2)) false) (done d k 0 [] true))
+    (λ (q : Request). done (step deskRules d q .desk) (k + 1) (suc (bodyLength (b # 0))) (lineOf why k (b # 0) (step deskRules d q .answer) (reasonFor d q)) true)
 
 -- as the program returns it: the lines stand behind the first `at` bytes of the buffer
 pub record Made (x : Done) (before : List ℕ) (at : ℕ) (d : Desk House Change) (r : Progress) (after : List ℕ) : Type 0 where

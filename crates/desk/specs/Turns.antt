@@ -28,19 +28,20 @@ readsOn ended no-bytes = not ended
 readsOn ended (unknown-kind kind) = false
 readsOn ended (cut-body kind) = not ended
 
-abbrev pub doneWith : Bool → Desk House Change → ℕ → Series → Done
-doneWith ended d k s =
+-- the requests of a series and its end; `why` is whether the lines have their reasons
+abbrev pub doneWith : Bool → Bool → Desk House Change → ℕ → Series → Done
+doneWith why ended d k s =
     record {
       desk = run deskRules d (s .requests);
       ordinal = k + length (givenTo ended d s);
       used = length (writtenOut (s .requests));
-      text = linesFrom k (givenTo ended d s);
+      text = linesFrom why k (givenTo ended d s);
       onward = readsOn ended (s .end);
     }
 
 -- the bytes b on the desk d, with k the ordinal of the next line; `ended` is whether the input ends with them
-abbrev pub allOf : Bool → Desk House Change → ℕ → List ℕ → Done
-allOf ended d k b = doneWith ended d k (seriesOf b)
+abbrev pub allOf : Bool → Bool → Desk House Change → ℕ → List ℕ → Done
+allOf why ended d k b = doneWith why ended d k (seriesOf b)
 
 -- where the program stands between two pieces: the desk, the ordinal of the next line, and the bytes that wait for the rest of their request
 pub record Stand : Type 0 where
@@ -64,22 +65,22 @@ abbrev pub turnedBy : List ℕ → Done → Turned
 turnedBy b r = record { text = r .text; next = stand (r .desk) (r .ordinal) (drop (r .used) b); onward = r .onward }
 
 -- a piece of no bytes is the end of the input
-abbrev pub turn : Stand → List ℕ → Turned
-turn s piece = turnedBy (s .waiting ++ piece) (allOf (eqb (length piece) 0) (s .desk) (s .ordinal) (s .waiting ++ piece))
+abbrev pub turn : Bool → Stand → List ℕ → Turned
+turn why s piece = turnedBy (s .waiting ++ piece) (allOf why (eqb (length piece) 0) (s .desk) (s .ordinal) (s .waiting ++ piece))
 
 -- what the program writes where it reads these pieces and then the end, as long as it goes on
-abbrev pub writes : Stand → List (List ℕ) → List ℕ
-writes s [] = turn s [] .text
-writes s (piece ∷ more) = turn s piece .text ++ cond (turn s piece .onward) (writes (turn s piece .next) more) []
+abbrev pub writes : Bool → Stand → List (List ℕ) → List ℕ
+writes why s [] = turn why s [] .text
+writes why s (piece ∷ more) = turn why s piece .text ++ cond (turn why s piece .onward) (writes why (turn why s piece .next) more) []
 
 -- where it stands after these pieces, and whether it went on after each
-abbrev pub standAfter : Stand → List (List ℕ) → Stand
-standAfter s [] = s
-standAfter s (piece ∷ more) = standAfter (turn s piece .next) more
+abbrev pub standAfter : Bool → Stand → List (List ℕ) → Stand
+standAfter why s [] = s
+standAfter why s (piece ∷ more) = standAfter why (turn why s piece .next) more
 
-abbrev pub wentOn : Stand → List (List ℕ) → Bool
-wentOn s [] = true
-wentOn s (piece ∷ more) = turn s piece .onward && wentOn (turn s piece .next) more
+abbrev pub wentOn : Bool → Stand → List (List ℕ) → Bool
+wentOn why s [] = true
+wentOn why s (piece ∷ more) = turn why s piece .onward && wentOn why (turn why s piece .next) more
 
 -- pieces as reads give them before the input ends, each of some bytes, and the input that they are
 abbrev pub Pieces : List (List ℕ) → Type 0

@@ -1,9 +1,12 @@
-// The text of a line: the ordinal, the kind, the answer byte, the draft number or a dash.
+// The text of a line: the ordinal, the kind, the answer byte, the draft number or a dash, and where it is asked for the reason.
 ghost use mathlib.Core.Path.{_≡_};
+ghost use mathlib.Core.Bool.{cond};
+ghost use mathlib.Core.List.{[]};
 ghost use Prim.Native.Nat.{_+_, _<_, _≤_};
 ghost use lib.ListN.{length};
-ghost use Rattle.desk.specs.Lines.{hexDigit, middleOf, decimal, numberText, lineOf, Put};
+ghost use Rattle.desk.specs.Lines.{hexDigit, middleOf, decimal, numberText, numberPart, kindPart, reasonText, lineOf, Put};
 use history::Answer;
+use reasons::Reason;
 
 fn wide(byte: u8) -> u32
     ensures { λ r. ⌜ (r ≡ byte) × (r < 256) ⌝ }
@@ -28,6 +31,16 @@ fn middle(kind: u32, byte: u32) -> [u8; 7]
     let c = hex_digit(byte / 16);
     let d = hex_digit(byte % 16);
     [b' ', a, b, b' ', c, d, b' ']
+}
+
+// As in ` 45`: the kind of a record.
+fn kind_part(kind: u32) -> [u8; 3]
+    requires { ⌜ kind < 256 ⌝ }
+    ensures { λ r. ⌜ r ≡ kindPart kind ⌝ }
+{
+    let a = hex_digit(kind / 16);
+    let b = hex_digit(kind % 16);
+    [b' ', a, b]
 }
 
 // A text goes behind the first `at` bytes of out; the answer is where it ends.
@@ -58,14 +71,46 @@ fn put_number(answer: Answer, out: &mut [u8], at: usize) -> usize
     }
 }
 
-pub(crate) fn line(ordinal: u64, kind: u8, answer: Answer, out: &mut [u8], at: usize) -> usize
-    requires { ⌜ at + 64 ≤ length (now out) ⌝ }
-    ensures { λ r. ⌜ Put (now (out .entry)) at (lineOf ordinal kind answer) r (now (out .exit)) ⌝ }
+fn put_part(n: u32, out: &mut [u8], at: usize) -> usize
+    requires { ⌜ at + 21 ≤ length (now out) ⌝ }
+    ensures { λ r. ⌜ Put (now (out .entry)) at (numberPart n) r (now (out .exit)) ⌝ }
+{
+    let a = append(out, at, b" ");
+    put_decimal(n as u64, out, a)
+}
+
+fn put_reason(why: bool, reason: Reason, out: &mut [u8], at: usize) -> usize
+    requires { ⌜ at + 87 ≤ length (now out) ⌝ }
+    ensures { λ r. ⌜ Put (now (out .entry)) at (cond why (reasonText reason) []) r (now (out .exit)) ⌝ }
+{
+    if !why {
+        return at;
+    }
+    let a = put_part(wide(reason.number), out, at);
+    let kind = kind_part(wide(reason.kind));
+    let b = append(out, a, &kind);
+    let c = put_part(reason.id, out, b);
+    let d = put_part(reason.held, out, c);
+    put_part(reason.wanted, out, d)
+}
+
+pub(crate) fn line(
+    why: bool,
+    ordinal: u64,
+    kind: u8,
+    answer: Answer,
+    reason: Reason,
+    out: &mut [u8],
+    at: usize,
+) -> usize
+    requires { ⌜ at + 136 ≤ length (now out) ⌝ }
+    ensures { λ r. ⌜ Put (now (out .entry)) at (lineOf why ordinal kind answer reason) r (now (out .exit)) ⌝ }
 {
     let a = put_decimal(ordinal, out, at);
     let byte = history::answer_byte(answer);
     let mid = middle(wide(kind), wide(byte));
     let b = append(out, a, &mid);
     let c = put_number(answer, out, b);
-    append(out, c, b"\n")
+    let d = put_reason(why, reason, out, c);
+    append(out, d, b"\n")
 }

@@ -7,6 +7,8 @@ ghost use mathlib.Core.Path.{_≡_};
 ghost use lib.ListN.{length};
 ghost use Rattle.history.specs.Machine.{opened};
 ghost use Rattle.history.specs.Desk.{shown, deskRules};
+use arguments::Arguments;
+use libc::STDERR_FILENO;
 use libc::STDIN_FILENO;
 use libc::STDOUT_FILENO;
 use log::Log;
@@ -18,6 +20,7 @@ use records::Cells;
 // Every proved loop ends, so this one has a number of turns, 2 ^ 50, which also keeps each ordinal within 64 bits. After that many reads (35 years, at
 // a microsecond each) the program ends as it stands: the lines of all whole requests read are written, what waits is not answered, and no C2 is printed.
 fn run(
+    why: bool,
     base: &mut Cells,
     log: &mut Log,
     current: &mut Cells,
@@ -26,7 +29,7 @@ fn run(
     out: &mut [u8],
 )
     requires { ⌜ shown (now base) (now log) (now current) (now last) ≡ opened deskRules 0 ⌝ }
-    requires { ⌜ (length (now buf) ≡ 1024) × (length (now out) ≡ 65536) ⌝ }
+    requires { ⌜ (length (now buf) ≡ 1024) × (length (now out) ≡ 139264) ⌝ }
 {
     let mut ordinal: u64 = 1;
     let mut have: usize = 0;
@@ -38,7 +41,18 @@ fn run(
             return;
         }
         let got = io::count(read, &buf[have..]);
-        let turn = pieces::answer_piece(base, log, current, last, ordinal, buf, have, got, out);
+        let turn = pieces::answer_piece(
+            why,
+            base,
+            log,
+            current,
+            last,
+            ordinal,
+            buf,
+            have,
+            got,
+            out,
+        );
         let text = turn.text;
         if !io::write_all(STDOUT_FILENO, &out[..text]) {
             os::fail(b"desk: standard output");
@@ -53,15 +67,38 @@ fn run(
     }
 }
 
-fn main() {
+// Room for the lines of a piece of 1024 bytes: a request has one byte at least, and a line 136 at most.
+fn text_room() -> [u8; 139264]
+    ensures { λ r. ⌜ 139264 ≡ length r ⌝ }
+{
+    [0; 139264]
+}
+
+// The words behind the program's name, each taken in its turn: that these are the words is trusted, what they ask for is decided in `take_word`.
+// One that is too long for the buffer is read as an empty word: both are unknown.
+fn words() -> Arguments {
+    let count = os::arg_count();
+    let mut taken = arguments::none();
+    let mut word = [0u8; 64];
+    let mut i: usize = 1;
+    while i < count {
+        let n = os::arg(i, &mut word);
+        taken = arguments::take_word(taken, &word[..n]);
+        i += 1;
+    }
+    taken
+}
+
+fn serve(why: bool) {
     let desk = history::open(0);
     let mut base = desk.base;
     let mut log = desk.log;
     let mut current = desk.current;
     let mut last = desk.last;
     let mut buf = [0u8; 1024];
-    let mut out = io::large_buffer();
+    let mut out = text_room();
     run(
+        why,
         &mut base,
         &mut log,
         &mut current,
@@ -69,4 +106,16 @@ fn main() {
         &mut buf,
         &mut out,
     );
+}
+
+fn main() {
+    let arguments = words();
+    if arguments.usage {
+        io::write_all(
+            STDERR_FILENO,
+            b"desk: usage: desk [--why] <requests >lines\n",
+        );
+        return;
+    }
+    serve(arguments.why);
 }

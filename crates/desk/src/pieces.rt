@@ -32,6 +32,7 @@ fn keep(buf: &mut [u8], from: usize, to: usize) -> usize
 
 // The first `have` bytes of buf wait, and `got` bytes were read behind them; none were read where the input has ended.
 pub(crate) fn answer_piece(
+    why: bool,
     base: &mut Cells,
     log: &mut Log,
     current: &mut Cells,
@@ -42,11 +43,12 @@ pub(crate) fn answer_piece(
     got: usize,
     out: &mut [u8],
 ) -> Turn
-    requires { ⌜ (have + got ≤ length (now buf)) × ((ordinal + (have + got) < 2 ^ 64) × (64 * (have + got) ≤ length (now out))) ⌝ }
-    ensures { λ r. ⌜ TurnIs (turn (stand (shown (now (base .entry)) (now (log .entry)) (now (current .entry)) (now (last .entry))) ordinal (take have (now (buf .entry)))) (take got (drop have (now (buf .entry))))) (shown (now (base .exit)) (now (log .exit)) (now (current .exit)) (now (last .exit))) r (now (buf .exit)) (now (out .exit)) ⌝ }
+    requires { ⌜ (have + got ≤ length (now buf)) × ((ordinal + (have + got) < 2 ^ 64) × (136 * (have + got) ≤ length (now out))) ⌝ }
+    ensures { λ r. ⌜ TurnIs (turn why (stand (shown (now (base .entry)) (now (log .entry)) (now (current .entry)) (now (last .entry))) ordinal (take have (now (buf .entry)))) (take got (drop have (now (buf .entry))))) (shown (now (base .exit)) (now (log .exit)) (now (current .exit)) (now (last .exit))) r (now (buf .exit)) (now (out .exit)) ⌝ }
 {
     let end = have + got;
     let done = answer_all(
+        why,
         base,
         log,
         current,

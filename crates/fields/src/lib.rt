@@ -1,6 +1,6 @@
-// The facts that 01's refusal table asks of a request's own fields, and who may enrol.
+// The facts that 01's refusal table asks of a request's own fields.
 ghost use mathlib.Core.Path.{_≡_};
-ghost use Rattle.fields.specs.Fields.{isId, isRoomNumber, isLevel, isSort, isYesNo, isPlain, first, mayEnrol};
+ghost use Rattle.fields.specs.Fields.{isId, toSixteen, fromOne, isLevel, isSort, isYesNo, isPlain, isFirst};
 
 pub fn is_id(id: u8) -> bool
     ensures { λ r. ⌜ r ≡ isId id ⌝ }
@@ -8,10 +8,17 @@ pub fn is_id(id: u8) -> bool
     id <= 63
 }
 
-pub fn is_room_number(room: u8) -> bool
-    ensures { λ r. ⌜ r ≡ isRoomNumber room ⌝ }
+// A room is 1 to 16.
+pub fn to_sixteen(room: u8) -> bool
+    ensures { λ r. ⌜ r ≡ toSixteen room ⌝ }
 {
-    (1 <= room) & (room <= 16)
+    room <= 16
+}
+
+pub fn from_one(room: u8) -> bool
+    ensures { λ r. ⌜ r ≡ fromOne room ⌝ }
+{
+    1 <= room
 }
 
 pub fn is_level(level: u8) -> bool
@@ -32,23 +39,16 @@ pub fn is_yes_no(admin: u8) -> bool
     admin <= 1
 }
 
-// An outsider comes with nothing.
-pub fn is_plain(sort: u8, level: u8, categories: u16, admin: u8) -> bool
-    ensures { λ r. ⌜ r ≡ isPlain sort level categories admin ⌝ }
+// An outsider comes with nothing: the field is his level, categories or admin.
+pub fn is_plain(sort: u8, field: u16) -> bool
+    ensures { λ r. ⌜ r ≡ isPlain sort field ⌝ }
 {
-    (sort != 2) | (level == 0) & (categories == 0) & (admin == 0)
+    (sort != 2) | (field == 0)
 }
 
-// Who enrols on a desk without users: himself, as staff and administrator.
-pub fn first(u: u8, new: u8, sort: u8, admin: u8) -> bool
-    ensures { λ r. ⌜ r ≡ first u new sort admin ⌝ }
+// Who enrols on a desk without users: himself, as staff and administrator, each of them a field and the value wanted.
+pub fn is_first(empty: bool, field: u8, wanted: u8) -> bool
+    ensures { λ r. ⌜ r ≡ isFirst empty field wanted ⌝ }
 {
-    (u == new) & (sort == 0) & (admin == 1)
-}
-
-// On a desk without users the first one enrols, and else an administrator.
-pub fn may_enrol(empty: bool, first: bool, admin: bool) -> bool
-    ensures { λ r. ⌜ r ≡ mayEnrol empty first admin ⌝ }
-{
-    if empty { first } else { admin }
+    !empty | (field == wanted)
 }

@@ -21,7 +21,7 @@ abbrev pub changeOf : Request → ℕ → Change
 changeOf q n = record { request = q; number = n }
 
 abbrev pub verdictOf : Request → Ruling → Verdict Change
-verdictOf q (Refused n) = refuse n
+verdictOf q (Refused r) = refuse (r .number)
 verdictOf q Pass = pass
 verdictOf q Keep = make (changeOf q 0)
 verdictOf q KeepNumbered = issue (changeOf q)

@@ -3,8 +3,8 @@ ghost use mathlib.Core.Path.{_≡_};
 ghost use Prim.Native.Nat.{ℕ};
 ghost use Rattle.records.specs.House.{view};
 ghost use Rattle.log.specs.Log.{past};
-ghost use Rattle.history.specs.Machine.{opened, outcome, keepChange, takeBack, issued, step};
-ghost use Rattle.history.specs.Desk.{shown, deskRules, changeOf, settled, answerByte};
+ghost use Rattle.history.specs.Machine.{opened, outcome, keepChange, takeBack, issued, ruled, step};
+ghost use Rattle.history.specs.Desk.{shown, deskRules, changeOf, verdictOf, settled, answerByte};
 ghost use Rattle.counter.specs.Numbers.{nextAfter};
 use counter::Next;
 use effects::Change;
@@ -100,7 +100,30 @@ fn take_back(base: &Cells, log: &mut Log, current: &mut Cells) -> Answer
     Answer::Granted
 }
 
-// One request, on any desk: judged, then refused, passed, made and kept, or taken back. Only a take-back copies records.
+// A request that is judged already: refused, passed, made and kept, or taken back. Only a take-back copies records.
+pub fn act(
+    base: &mut Cells,
+    log: &mut Log,
+    current: &mut Cells,
+    last: &mut u32,
+    request: Request,
+    ruling: Ruling,
+) -> Answer
+    ensures { λ r. ⌜ outcome (shown (now (base .exit)) (now (log .exit)) (now (current .exit)) (now (last .exit))) r ≡ ruled deskRules (shown (now (base .entry)) (now (log .entry)) (now (current .entry)) (now (last .entry))) (verdictOf request ruling) ⌝ }
+{
+    match ruling {
+        Ruling::Refused(reason) => Answer::Refused(reason.number),
+        Ruling::Pass => Answer::Granted,
+        Ruling::Keep => {
+            make(base, log, current, Change { request, number: 0 });
+            Answer::Granted
+        }
+        Ruling::KeepNumbered => make_numbered(base, log, current, last, request),
+        Ruling::TakeBack => take_back(base, log, current),
+    }
+}
+
+// One request, on any desk.
 pub fn take(
     base: &mut Cells,
     log: &mut Log,
@@ -111,14 +134,5 @@ pub fn take(
     ensures { λ r. ⌜ outcome (shown (now (base .exit)) (now (log .exit)) (now (current .exit)) (now (last .exit))) r ≡ step deskRules (shown (now (base .entry)) (now (log .entry)) (now (current .entry)) (now (last .entry))) request ⌝ }
 {
     let ruling = judge::judge(current, request);
-    match ruling {
-        Ruling::Refused(n) => Answer::Refused(n),
-        Ruling::Pass => Answer::Granted,
-        Ruling::Keep => {
-            make(base, log, current, Change { request, number: 0 });
-            Answer::Granted
-        }
-        Ruling::KeepNumbered => make_numbered(base, log, current, last, request),
-        Ruling::TakeBack => take_back(base, log, current),
-    }
+    act(base, log, current, last, request, ruling)
 }

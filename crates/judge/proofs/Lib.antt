@@ -1,4 +1,3 @@
--- The laws that the functions' proofs cite, and what the judge's answers say.
-pub mod Lines
-pub mod Lookups
+-- What the judge's answers say, and that each reason is true of the records.
 pub mod Order
+pub mod Sound

@@ -1,89 +1,55 @@
--- What an answer of the judge says: a grant, that every fact holds; a refusal n, that the first fact that fails, and so the lowest that applies, has number n.
+-- What an answer of the judge says: a grant, that every fact holds; a refusal, that its reason is of the first fact that fails, and so has the lowest number that
+-- applies.
 use Prim.Native.Nat.{ℕ, _≤_}
-use mathlib.Core.Path.{_≡_, refl, sym, _∙_}
-use mathlib.Core.Bool.{Bool, true, false, _&&_}
-use mathlib.Core.List.{List, [], _∷_}
+use mathlib.Core.Path.{_≡_, refl, sym, ap, _∙_}
+use mathlib.Core.Bool.{true}
+use mathlib.Core.List.{List}
 use native.Mathlib.Omega.{arith}
-use lib.Dec.{eqb, leb}
-use borrow.Author.Tests.{leb-true}
+use lib.Dec.{eqb}
 use Rattle.records.specs.Lists.{any, all}
 use Rattle.records.specs.House.{House}
 use Rattle.request.specs.declared.Request.{Request}
 use Rattle.request.specs.declared.Request.the-variants.{Enrol, Establish, JoinStaff, LeaveStaff, JoinOutsider, LeaveOutsider, Add, Remove, Import, Merge, Disband, OpenInRoom, OpenInHouse, OpenReadOnly, Read, Update, Create, Kill, TakeBack}
+use Rattle.reasons.specs.Asking.{Line, asked, AllHold, FirstFailing, Failing, numbers, ascendFrom, onceAfter}
+use Rattle.reasons.specs.Shared.{pairNumbers, pairLed, draftLed, opens, draftAsked}
+use Rattle.reasons.specs.declared.Reason.{Reason}
+use Rattle.reasons.proofs.Order.{all-hold, first-fails, Verdict, grant, refusal, verdict, lowest, holds-at}
 use Rattle.judge.specs.declared.Ruling.{Ruling}
 use Rattle.judge.specs.declared.Ruling.the-variants.{Refused}
-use Rattle.judge.specs.Refusals.{Line, _unless_, judged, AllHold, none, more, FirstFailing, here, later, Failing, this, that, numbers, ascendFrom, onceAfter}
-use Rattle.judge.specs.Kinds.{enrolLines, establishLines, joinStaffLines, leaveStaffLines, joinOutsiderLines, leaveOutsiderLines, addLines, removeLines, importLines, mergeLines, disbandLines, openInRoomLines, openInHouseLines, openReadOnlyLines, readLines, updateLines, createLines, killLines, takeBackLines, linesOf, grantOf, rulingOf}
+use Rattle.judge.specs.Kinds.{enrolWhere, establishLines, importLines, disbandLines, createLines, killLines, takeBackLines, linesOf, grantOf, grantIf, rulingOf}
 use Rattle.judge.specs.Table.{refusals}
-use Rattle.judge.proofs.Lines.{holds, fails, all-held}
 
 -- ---- of every list of lines, judged for a grant g
 module _ (g : Ruling) where
   -- where every fact holds, the answer is the grant
-  pub all-granted : {ls : List Line} → AllHold ls → judged g ls ≡ g
-  all-granted none = all-held g
-  all-granted (more {n} {b} {ls} e a) = holds g n b ls e ∙ all-granted a
+  pub all-granted : {ls : List Line} → AllHold ls → grantIf g (asked ls) ≡ g
+  all-granted a = rw (all-hold a)
 
-  -- where the first fact that fails has number n, the answer is refusal n
-  pub first-refused : {n : ℕ} {ls : List Line} → FirstFailing n ls → judged g ls ≡ Refused n
-  first-refused {n} (here {b} {ls} e) = fails g n b ls e
-  first-refused {n} (later {m} {b} {ls} e f) = holds g m b ls e ∙ first-refused f
-
--- a list has the one or the other
-pub data Verdict (ls : List Line) : Type 0 where
-  grant : AllHold ls → Verdict ls
-  refusal : (n : ℕ) → FirstFailing n ls → Verdict ls
-
-pub verdict : (ls : List Line) → Verdict ls
-verdict [] = grant none
-verdict (n unless b ∷ ls) = go b refl (verdict ls)
-  where
-    go : (t : Bool) → b ≡ t → Verdict ls → Verdict (n unless b ∷ ls)
-    go false e v = refusal n (here e)
-    go true e (grant a) = grant (more e a)
-    go true e (refusal m f) = refusal m (later e f)
+  -- where r is the reason of the first fact that fails, the answer is that refusal
+  pub first-refused : {r : Reason} {ls : List Line} → FirstFailing r ls → grantIf g (asked ls) ≡ Refused r
+  first-refused f = rw (first-fails f)
 
 -- and the answer tells which, as long as g itself is no refusal
-module _ (g : Ruling) (is-grant : (n : ℕ) → g ≡ Refused n → ⊥) (ls : List Line) where
-  pub granted-all : judged g ls ≡ g → AllHold ls
+module _ (g : Ruling) (is-grant : (r : Reason) → g ≡ Refused r → ⊥) (ls : List Line) where
+  pub granted-all : grantIf g (asked ls) ≡ g → AllHold ls
   granted-all e = go (verdict ls)
     where
       go : Verdict ls → AllHold ls
       go (grant a) = a
-      go (refusal n f) = absurd (is-grant n (sym e ∙ first-refused g f))
+      go (refusal r f) = absurd (is-grant r (sym e ∙ first-refused g f))
 
-  pub refused-first : (n : ℕ) → judged g ls ≡ Refused n → FirstFailing n ls
-  refused-first n e = go (verdict ls)
+  pub refused-first : (r : Reason) → grantIf g (asked ls) ≡ Refused r → FirstFailing r ls
+  refused-first r e = go (verdict ls)
     where
-      go : Verdict ls → FirstFailing n ls
-      go (grant a) = absurd (is-grant n (sym (all-granted g a) ∙ e))
-      go (refusal m f) =
-          let z : m ≡ n = cc (first-refused g f) in
+      go : Verdict ls → FirstFailing r ls
+      go (grant a) = absurd (is-grant r (sym (all-granted g a) ∙ e))
+      go (refusal s f) =
+          let z : s ≡ r = cc (first-refused g f) in
           rw (sym z) f
-
--- ---- 01: "The lowest n that applies is given"
-split : (a b : Bool) → (a && b) ≡ true → (a ≡ true) × (b ≡ true)
-split true b e = (refl, e)
-split false b e = (e, cc)
-
-at-least : (m : ℕ) {k : ℕ} {ls : List Line} → ascendFrom m (numbers ls) ≡ true → Failing k ls → m ≤ k
-at-least m {k} a (this {b} {ls} e) = leb-true m k (split (leb m k) (ascendFrom k (numbers ls)) a .0)
-at-least m {k} a (that {m = n} {ls = ls} f) =
-    let x = split (leb m n) (ascendFrom n (numbers ls)) a in
-    let y = leb-true m n (x .0) in
-    let z = at-least n (x .1) f in
-    omega arith
-
--- in ascending lines none that fails has a lower number than the first
-pub lowest : (m : ℕ) {n k : ℕ} {ls : List Line} → ascendFrom m (numbers ls) ≡ true → FirstFailing n ls → Failing k ls → n ≤ k
-lowest m a (here e) (this d) = omega arith
-lowest m {n} a (here {b} {ls} e) (that f) = at-least n (split (leb m n) (ascendFrom n (numbers ls)) a .1) f
-lowest m a (later e f) (this d) = absurd (let z : _≡_ {A = ℕ} 0 1 = cc in omega arith)
-lowest m a (later {m = j} {ls = ls} e f) (that d) = lowest j (split (leb m j) (ascendFrom j (numbers ls)) a .1) f d
 
 -- the numbers of every kind's lines ascend
 pub lines-ascend : (h : House) (q : Request) → ascendFrom 3 (numbers (linesOf h q)) ≡ true
-unfolding enrolLines establishLines joinStaffLines leaveStaffLines joinOutsiderLines leaveOutsiderLines addLines removeLines importLines mergeLines disbandLines openInRoomLines openInHouseLines openReadOnlyLines readLines updateLines createLines killLines takeBackLines
+unfolding enrolWhere establishLines pairNumbers pairLed draftLed importLines disbandLines opens draftAsked createLines killLines takeBackLines
 lines-ascend h (Enrol u new sort level c admin) = refl
 lines-ascend h (Establish u room) = refl
 lines-ascend h (JoinStaff u w room) = refl
@@ -105,26 +71,26 @@ lines-ascend h (Kill u s) = refl
 lines-ascend h (TakeBack u) = refl
 
 -- ---- of every house and request
-pub grant-is-none : (q : Request) (n : ℕ) → grantOf q ≡ Refused n → ⊥
-grant-is-none (Enrol u new sort level c admin) n e = let z : _≡_ {A = ℕ} 0 1 = cc in omega arith
-grant-is-none (Establish u room) n e = let z : _≡_ {A = ℕ} 0 1 = cc in omega arith
-grant-is-none (JoinStaff u w room) n e = let z : _≡_ {A = ℕ} 0 1 = cc in omega arith
-grant-is-none (LeaveStaff u w room) n e = let z : _≡_ {A = ℕ} 0 1 = cc in omega arith
-grant-is-none (JoinOutsider u w room level c) n e = let z : _≡_ {A = ℕ} 0 1 = cc in omega arith
-grant-is-none (LeaveOutsider u w room) n e = let z : _≡_ {A = ℕ} 0 1 = cc in omega arith
-grant-is-none (Add u s v room) n e = let z : _≡_ {A = ℕ} 0 1 = cc in omega arith
-grant-is-none (Remove u s v room) n e = let z : _≡_ {A = ℕ} 0 1 = cc in omega arith
-grant-is-none (Import u s₁ v s₂ room) n e = let z : _≡_ {A = ℕ} 0 1 = cc in omega arith
-grant-is-none (Merge u s v room) n e = let z : _≡_ {A = ℕ} 0 1 = cc in omega arith
-grant-is-none (Disband u room) n e = let z : _≡_ {A = ℕ} 0 1 = cc in omega arith
-grant-is-none (OpenInRoom u s room level c) n e = let z : _≡_ {A = ℕ} 0 1 = cc in omega arith
-grant-is-none (OpenInHouse u s level c) n e = let z : _≡_ {A = ℕ} 0 1 = cc in omega arith
-grant-is-none (OpenReadOnly u s level c) n e = let z : _≡_ {A = ℕ} 0 1 = cc in omega arith
-grant-is-none (Read s k v) n e = let z : _≡_ {A = ℕ} 0 1 = cc in omega arith
-grant-is-none (Update s k v) n e = let z : _≡_ {A = ℕ} 0 1 = cc in omega arith
-grant-is-none (Create s k) n e = let z : _≡_ {A = ℕ} 0 1 = cc in omega arith
-grant-is-none (Kill u s) n e = let z : _≡_ {A = ℕ} 0 1 = cc in omega arith
-grant-is-none (TakeBack u) n e = let z : _≡_ {A = ℕ} 0 1 = cc in omega arith
+pub grant-is-none : (q : Request) (r : Reason) → grantOf q ≡ Refused r → ⊥
+grant-is-none (Enrol u new sort level c admin) r e = let z : _≡_ {A = ℕ} 0 1 = cc in omega arith
+grant-is-none (Establish u room) r e = let z : _≡_ {A = ℕ} 0 1 = cc in omega arith
+grant-is-none (JoinStaff u w room) r e = let z : _≡_ {A = ℕ} 0 1 = cc in omega arith
+grant-is-none (LeaveStaff u w room) r e = let z : _≡_ {A = ℕ} 0 1 = cc in omega arith
+grant-is-none (JoinOutsider u w room level c) r e = let z : _≡_ {A = ℕ} 0 1 = cc in omega arith
+grant-is-none (LeaveOutsider u w room) r e = let z : _≡_ {A = ℕ} 0 1 = cc in omega arith
+grant-is-none (Add u s v room) r e = let z : _≡_ {A = ℕ} 0 1 = cc in omega arith
+grant-is-none (Remove u s v room) r e = let z : _≡_ {A = ℕ} 0 1 = cc in omega arith
+grant-is-none (Import u s₁ v s₂ room) r e = let z : _≡_ {A = ℕ} 0 1 = cc in omega arith
+grant-is-none (Merge u s v room) r e = let z : _≡_ {A = ℕ} 0 1 = cc in omega arith
+grant-is-none (Disband u room) r e = let z : _≡_ {A = ℕ} 0 1 = cc in omega arith
+grant-is-none (OpenInRoom u s room level c) r e = let z : _≡_ {A = ℕ} 0 1 = cc in omega arith
+grant-is-none (OpenInHouse u s level c) r e = let z : _≡_ {A = ℕ} 0 1 = cc in omega arith
+grant-is-none (OpenReadOnly u s level c) r e = let z : _≡_ {A = ℕ} 0 1 = cc in omega arith
+grant-is-none (Read s k v) r e = let z : _≡_ {A = ℕ} 0 1 = cc in omega arith
+grant-is-none (Update s k v) r e = let z : _≡_ {A = ℕ} 0 1 = cc in omega arith
+grant-is-none (Create s k) r e = let z : _≡_ {A = ℕ} 0 1 = cc in omega arith
+grant-is-none (Kill u s) r e = let z : _≡_ {A = ℕ} 0 1 = cc in omega arith
+grant-is-none (TakeBack u) r e = let z : _≡_ {A = ℕ} 0 1 = cc in omega arith
 
 module _ (h : House) (q : Request) where
   -- granted exactly where every fact of the kind holds
@@ -132,19 +98,19 @@ module _ (h : House) (q : Request) where
   unfolding rulingOf
   granted-exactly = (granted-all (grantOf q) (grant-is-none q) (linesOf h q), all-granted (grantOf q))
 
-  -- refused with n exactly where the first fact that fails has number n
-  pub refused-exactly : (n : ℕ) → (rulingOf h q ≡ Refused n → FirstFailing n (linesOf h q)) × (FirstFailing n (linesOf h q) → rulingOf h q ≡ Refused n)
+  -- refused with r exactly where r is the reason of the first fact that fails
+  pub refused-exactly : (r : Reason) → (rulingOf h q ≡ Refused r → FirstFailing r (linesOf h q)) × (FirstFailing r (linesOf h q) → rulingOf h q ≡ Refused r)
   unfolding rulingOf
-  refused-exactly n = (refused-first (grantOf q) (grant-is-none q) (linesOf h q) n, first-refused (grantOf q))
+  refused-exactly r = (refused-first (grantOf q) (grant-is-none q) (linesOf h q) r, first-refused (grantOf q))
 
   -- and then no fact of a lower number fails
-  pub lowest-given : (n k : ℕ) → rulingOf h q ≡ Refused n → Failing k (linesOf h q) → n ≤ k
-  lowest-given n k e f = lowest 3 (lines-ascend h q) (refused-exactly n .0 e) f
+  pub lowest-given : (r : Reason) (k : ℕ) → rulingOf h q ≡ Refused r → Failing k (linesOf h q) → r .number ≤ k
+  lowest-given r k e f = lowest 3 (lines-ascend h q) (refused-exactly r .0 e) f
 
 -- ---- the table of refusals
 -- a kind's row has the numbers of its lines, each once
 pub row-exact : (h : House) (q : Request) → onceAfter 0 (numbers (linesOf h q)) ≡ refusals q
-unfolding enrolLines establishLines joinStaffLines leaveStaffLines joinOutsiderLines leaveOutsiderLines addLines removeLines importLines mergeLines disbandLines openInRoomLines openInHouseLines openReadOnlyLines readLines updateLines createLines killLines takeBackLines
+unfolding enrolWhere establishLines pairNumbers pairLed draftLed importLines disbandLines opens draftAsked createLines killLines takeBackLines
 row-exact h (Enrol u new sort level c admin) = refl
 row-exact h (Establish u room) = refl
 row-exact h (JoinStaff u w room) = refl
@@ -166,7 +132,7 @@ row-exact h (Kill u s) = refl
 row-exact h (TakeBack u) = refl
 
 rows-hold : (h : House) (q : Request) → all (λ n. any (eqb n) (refusals q)) (numbers (linesOf h q)) ≡ true
-unfolding enrolLines establishLines joinStaffLines leaveStaffLines joinOutsiderLines leaveOutsiderLines addLines removeLines importLines mergeLines disbandLines openInRoomLines openInHouseLines openReadOnlyLines readLines updateLines createLines killLines takeBackLines
+unfolding enrolWhere establishLines pairNumbers pairLed draftLed importLines disbandLines opens draftAsked createLines killLines takeBackLines
 rows-hold h (Enrol u new sort level c admin) = refl
 rows-hold h (Establish u room) = refl
 rows-hold h (JoinStaff u w room) = refl
@@ -187,10 +153,6 @@ rows-hold h (Create s k) = refl
 rows-hold h (Kill u s) = refl
 rows-hold h (TakeBack u) = refl
 
-holds-at : (p : ℕ → Bool) {n : ℕ} {ls : List Line} → all p (numbers ls) ≡ true → FirstFailing n ls → p n ≡ true
-holds-at p {n} a (here {b} {ls} e) = split (p n) (all p (numbers ls)) a .0
-holds-at p a (later {m} {b} {ls} e f) = holds-at p (split (p m) (all p (numbers ls)) a .1) f
-
 -- a kind is refused only with a number of its row
-pub refused-by-table : (h : House) (q : Request) (n : ℕ) → rulingOf h q ≡ Refused n → any (eqb n) (refusals q) ≡ true
-refused-by-table h q n e = holds-at (λ m. any (eqb m) (refusals q)) (rows-hold h q) (refused-exactly h q n .0 e)
+pub refused-by-table : (h : House) (q : Request) (r : Reason) → rulingOf h q ≡ Refused r → any (eqb (r .number)) (refusals q) ≡ true
+refused-by-table h q r e = holds-at (λ m. any (eqb m) (refusals q)) (rows-hold h q) (refused-exactly h q r .0 e)

@@ -1,263 +1,126 @@
--- The conditions of each kind of request: 01's refusal table read off for that kind, in ascending numbers, and under one number in the order of the
--- table's words, then of the body.
+-- The lines of each kind of request: 01's refusal table read off for that kind, in ascending numbers, and under one number in the order of the table's
+-- words, then of the body. What kinds ask in common is one list.
 use Prim.Native.Nat.{ℕ}
-use mathlib.Core.Bool.{Bool, not, _||_}
-use mathlib.Core.List.{List, [], _∷_}
-use Rattle.records.specs.Lists.{any}
-use Rattle.records.specs.Places.{has}
-use Rattle.records.specs.House.{House, house, user, script, session}
-use Rattle.records.specs.Lookups.{draftIs, draft}
+use mathlib.Core.Bool.{Bool}
+use mathlib.Core.List.{List, [], _∷_, _++_}
+use Rattle.records.specs.House.{House, house, staff}
+use Rattle.records.specs.Lookups.{draft}
 use Rattle.request.specs.declared.Request.{Request}
 use Rattle.request.specs.declared.Request.the-variants.{Enrol, Establish, JoinStaff, LeaveStaff, JoinOutsider, LeaveOutsider, Add, Remove, Import, Merge, Disband, OpenInRoom, OpenInHouse, OpenReadOnly, Read, Update, Create, Kill, TakeBack}
+use Rattle.conditions.specs.Conditions.{noUsers}
+use Rattle.reasons.specs.Asking.{Line, asked}
+use Rattle.reasons.specs.Lines.{anId, roomHigh, roomLow, aLevel, aSort, aYesNo, plain, userExists, enrollerExists, roomExists, scriptExists, sessionExists, draftExists, userNew, roomNew, sessionNew, scriptNew, firstHas, enrolls, administers, leadsRoom, endsSession, ofStaff, notOfStaff, aFreelancer, writesIn, notYetIn, inRoom, draftAmong, draftNotAmong, seesDraft, seatedAt, originIs, levelCovers, categoriesCover, levelAsScript, categoriesAsScript, levelAlike, categoriesAlike, roomForDraft}
+use Rattle.reasons.specs.Shared.{pairNumbers, pairLed, draftLed, opens, draftAsked}
+use Rattle.reasons.specs.declared.Asked.{Asked}
+use Rattle.reasons.specs.declared.Asked.the-variants.{Holds, Fails}
 use Rattle.judge.specs.declared.Ruling.{Ruling}
-use Rattle.judge.specs.declared.Ruling.the-variants.{Pass, Keep, KeepNumbered}
-use Rattle.judge.specs.Refusals.{Line, _unless_, judged}
-use Rattle.fields.specs.Fields.{isId, isRoomNumber, isLevel, isSort, isYesNo, isPlain, first, mayEnrol}
-use Rattle.conditions.specs.Conditions.{noUsers, leads, isStaff, isFreelancer, mayKill, isIn, isAt, isSeated, ofOrigin, ofHouse, sees, opens, coversScript, sameAsScript, sameScripts, draftRoom}
+use Rattle.judge.specs.declared.Ruling.the-variants.{Refused, Pass, Keep, KeepNumbered}
 
--- "a user, room, script, session, or draft of that script, that must exist"
-abbrev pub isUser : House → ℕ → Bool
-isUser h u = user h u .here
-
-abbrev pub isRoom : House → ℕ → Bool
-isRoom h room = has (h .rooms) room
-
-abbrev pub isScript : House → ℕ → Bool
-isScript h s = script h s .here
-
-abbrev pub isSession : House → ℕ → Bool
-isSession h s = session h s .here
-
-abbrev pub isDraft : House → ℕ → ℕ → Bool
-isDraft h s v = any (draftIs s v) (h .drafts)
-
--- 01: "On a desk without users, Enrol's acting user need not exist; it is granted only with u = new, sort 0 and admin 1, else 6."
-unfoldable pub enrolLines : House → ℕ → ℕ → ℕ → ℕ → ℕ → ℕ → List Line
-enrolLines h u new sort level c admin =
-    3 unless isId u
-    ∷ 3 unless isId new
-    ∷ 3 unless isLevel level
-    ∷ 3 unless isSort sort
-    ∷ 3 unless isYesNo admin
-    ∷ 3 unless isPlain sort level c admin
-    ∷ 4 unless (noUsers h || isUser h u)
-    ∷ 5 unless not (isUser h new)
-    ∷ 6 unless mayEnrol (noUsers h) (first u new sort admin) (user h u .admin)
+-- 01: "On a desk without users, Enrol's acting user need not exist; it is granted only with u = new, sort 0 and admin 1, else 6." Empty says that there are none.
+unfoldable pub enrolWhere : House → Bool → ℕ → ℕ → ℕ → ℕ → ℕ → ℕ → List Line
+enrolWhere h empty u new sort level c admin =
+    anId u
+    ∷ anId new
+    ∷ aLevel level
+    ∷ aSort sort
+    ∷ aYesNo admin
+    ∷ plain sort level
+    ∷ plain sort c
+    ∷ plain sort admin
+    ∷ enrollerExists h empty u
+    ∷ userNew h new
+    ∷ firstHas empty u new
+    ∷ firstHas empty sort staff
+    ∷ firstHas empty admin 1
+    ∷ enrolls h empty u
     ∷ []
+
+abbrev pub enrolLines : House → ℕ → ℕ → ℕ → ℕ → ℕ → ℕ → List Line
+enrolLines h u new sort level c admin = enrolWhere h (noUsers h) u new sort level c admin
 
 unfoldable pub establishLines : House → ℕ → ℕ → List Line
-establishLines h u room =
-    3 unless isId u
-    ∷ 3 unless isRoomNumber room
-    ∷ 4 unless isUser h u
-    ∷ 5 unless not (isRoom h room)
-    ∷ 6 unless user h u .admin
-    ∷ []
+establishLines h u room = anId u ∷ roomHigh room ∷ roomLow room ∷ userExists h u ∷ roomNew h room ∷ administers h u ∷ []
 
-unfoldable pub joinStaffLines : House → ℕ → ℕ → ℕ → List Line
-joinStaffLines h u w room =
-    3 unless isId u
-    ∷ 3 unless isId w
-    ∷ 3 unless isRoomNumber room
-    ∷ 4 unless isUser h u
-    ∷ 4 unless isUser h w
-    ∷ 4 unless isRoom h room
-    ∷ 6 unless leads (user h u) room
-    ∷ 7 unless isStaff (user h w)
-    ∷ 8 unless not (isIn (user h w) room)
-    ∷ []
+abbrev pub joinStaffLines : House → ℕ → ℕ → ℕ → List Line
+joinStaffLines h u w room = pairNumbers u w room ++ pairLed h u w room ++ (ofStaff h w ∷ notYetIn h w room ∷ [])
 
-unfoldable pub leaveStaffLines : House → ℕ → ℕ → ℕ → List Line
-leaveStaffLines h u w room =
-    3 unless isId u
-    ∷ 3 unless isId w
-    ∷ 3 unless isRoomNumber room
-    ∷ 4 unless isUser h u
-    ∷ 4 unless isUser h w
-    ∷ 4 unless isRoom h room
-    ∷ 6 unless leads (user h u) room
-    ∷ 7 unless isStaff (user h w)
-    ∷ 8 unless isIn (user h w) room
-    ∷ []
+abbrev pub leaveStaffLines : House → ℕ → ℕ → ℕ → List Line
+leaveStaffLines h u w room = pairNumbers u w room ++ pairLed h u w room ++ (ofStaff h w ∷ inRoom h w room ∷ [])
 
-unfoldable pub joinOutsiderLines : House → ℕ → ℕ → ℕ → ℕ → ℕ → List Line
-joinOutsiderLines h u w room level c =
-    3 unless isId u
-    ∷ 3 unless isId w
-    ∷ 3 unless isRoomNumber room
-    ∷ 3 unless isLevel level
-    ∷ 4 unless isUser h u
-    ∷ 4 unless isUser h w
-    ∷ 4 unless isRoom h room
-    ∷ 6 unless leads (user h u) room
-    ∷ 7 unless not (isStaff (user h w))
-    ∷ 8 unless not (isIn (user h w) room)
-    ∷ []
+-- its level is asked, also where it has no effect
+abbrev pub joinOutsiderLines : House → ℕ → ℕ → ℕ → ℕ → List Line
+joinOutsiderLines h u w room level = pairNumbers u w room ++ (aLevel level ∷ []) ++ pairLed h u w room ++ (notOfStaff h w ∷ notYetIn h w room ∷ [])
 
-unfoldable pub leaveOutsiderLines : House → ℕ → ℕ → ℕ → List Line
-leaveOutsiderLines h u w room =
-    3 unless isId u
-    ∷ 3 unless isId w
-    ∷ 3 unless isRoomNumber room
-    ∷ 4 unless isUser h u
-    ∷ 4 unless isUser h w
-    ∷ 4 unless isRoom h room
-    ∷ 6 unless leads (user h u) room
-    ∷ 7 unless isFreelancer (user h w)
-    ∷ 8 unless isIn (user h w) room
-    ∷ []
+abbrev pub leaveOutsiderLines : House → ℕ → ℕ → ℕ → List Line
+leaveOutsiderLines h u w room = pairNumbers u w room ++ pairLed h u w room ++ (aFreelancer h w ∷ inRoom h w room ∷ [])
 
-unfoldable pub addLines : House → ℕ → ℕ → ℕ → ℕ → List Line
-addLines h u s v room =
-    3 unless isId u
-    ∷ 3 unless isId s
-    ∷ 3 unless isRoomNumber room
-    ∷ 4 unless isUser h u
-    ∷ 4 unless isRoom h room
-    ∷ 4 unless isScript h s
-    ∷ 4 unless isDraft h s v
-    ∷ 6 unless leads (user h u) room
-    ∷ 8 unless isAt (draft h s v) house
-    ∷ 8 unless not (isAt (draft h s v) room)
-    ∷ []
+abbrev pub addLines : House → ℕ → ℕ → ℕ → ℕ → List Line
+addLines h u k v room = draftLed h u k v room ++ (draftAmong v (draft h k v) house ∷ draftNotAmong v (draft h k v) room ∷ [])
 
-unfoldable pub removeLines : House → ℕ → ℕ → ℕ → ℕ → List Line
-removeLines h u s v room =
-    3 unless isId u
-    ∷ 3 unless isId s
-    ∷ 3 unless isRoomNumber room
-    ∷ 4 unless isUser h u
-    ∷ 4 unless isRoom h room
-    ∷ 4 unless isScript h s
-    ∷ 4 unless isDraft h s v
-    ∷ 6 unless leads (user h u) room
-    ∷ 8 unless isAt (draft h s v) room
-    ∷ []
+abbrev pub removeLines : House → ℕ → ℕ → ℕ → ℕ → List Line
+removeLines h u k v room = draftLed h u k v room ++ (draftAmong v (draft h k v) room ∷ [])
 
 unfoldable pub importLines : House → ℕ → ℕ → ℕ → ℕ → ℕ → List Line
-importLines h u s₁ v s₂ room =
-    3 unless isId u
-    ∷ 3 unless isId s₁
-    ∷ 3 unless isId s₂
-    ∷ 3 unless isRoomNumber room
-    ∷ 4 unless isUser h u
-    ∷ 4 unless isRoom h room
-    ∷ 4 unless isScript h s₁
-    ∷ 4 unless isScript h s₂
-    ∷ 4 unless isDraft h s₁ v
-    ∷ 6 unless leads (user h u) room
-    ∷ 8 unless ofOrigin (script h s₁) room
-    ∷ 8 unless ofHouse (script h s₂)
-    ∷ 9 unless sameScripts (script h s₁) (script h s₂)
-    ∷ 10 unless draftRoom h
+importLines h u k₁ v k₂ room =
+    anId u
+    ∷ anId k₁
+    ∷ anId k₂
+    ∷ roomHigh room
+    ∷ roomLow room
+    ∷ userExists h u
+    ∷ roomExists h room
+    ∷ scriptExists h k₁
+    ∷ scriptExists h k₂
+    ∷ draftExists h k₁ v
+    ∷ leadsRoom h u room
+    ∷ originIs h k₁ room
+    ∷ originIs h k₂ house
+    ∷ levelAlike h k₁ k₂
+    ∷ categoriesAlike h k₁ k₂
+    ∷ roomForDraft h
     ∷ []
 
-unfoldable pub mergeLines : House → ℕ → ℕ → ℕ → ℕ → List Line
-mergeLines h u s v room =
-    3 unless isId u
-    ∷ 3 unless isId s
-    ∷ 3 unless isRoomNumber room
-    ∷ 4 unless isUser h u
-    ∷ 4 unless isRoom h room
-    ∷ 4 unless isScript h s
-    ∷ 4 unless isDraft h s v
-    ∷ 6 unless leads (user h u) room
-    ∷ 8 unless isAt (draft h s v) room
-    ∷ 8 unless ofHouse (script h s)
-    ∷ []
+abbrev pub mergeLines : House → ℕ → ℕ → ℕ → ℕ → List Line
+mergeLines h u k v room = draftLed h u k v room ++ (draftAmong v (draft h k v) room ∷ originIs h k house ∷ [])
 
 unfoldable pub disbandLines : House → ℕ → ℕ → List Line
-disbandLines h u room =
-    3 unless isId u
-    ∷ 3 unless isRoomNumber room
-    ∷ 4 unless isUser h u
-    ∷ 4 unless isRoom h room
-    ∷ 6 unless leads (user h u) room
-    ∷ []
+disbandLines h u room = anId u ∷ roomHigh room ∷ roomLow room ∷ userExists h u ∷ roomExists h room ∷ leadsRoom h u room ∷ []
 
-unfoldable pub openInRoomLines : House → ℕ → ℕ → ℕ → ℕ → ℕ → List Line
+abbrev pub openInRoomLines : House → ℕ → ℕ → ℕ → ℕ → ℕ → List Line
 openInRoomLines h u s room level c =
-    3 unless isId u
-    ∷ 3 unless isId s
-    ∷ 3 unless isRoomNumber room
-    ∷ 3 unless isLevel level
-    ∷ 4 unless isUser h u
-    ∷ 4 unless isRoom h room
-    ∷ 5 unless not (isSession h s)
-    ∷ 8 unless isIn (user h u) room
-    ∷ 9 unless opens (user h u) level c
-    ∷ []
+    anId u
+    ∷ anId s
+    ∷ roomHigh room
+    ∷ roomLow room
+    ∷ aLevel level
+    ∷ userExists h u
+    ∷ roomExists h room
+    ∷ sessionNew h s
+    ∷ inRoom h u room
+    ∷ opens h u level c
 
-unfoldable pub openInHouseLines : House → ℕ → ℕ → ℕ → ℕ → List Line
-openInHouseLines h u s level c =
-    3 unless isId u
-    ∷ 3 unless isId s
-    ∷ 3 unless isLevel level
-    ∷ 4 unless isUser h u
-    ∷ 5 unless not (isSession h s)
-    ∷ 7 unless isStaff (user h u)
-    ∷ 9 unless opens (user h u) level c
-    ∷ []
+abbrev pub openInHouseLines : House → ℕ → ℕ → ℕ → ℕ → List Line
+openInHouseLines h u s level c = anId u ∷ anId s ∷ aLevel level ∷ userExists h u ∷ sessionNew h s ∷ ofStaff h u ∷ opens h u level c
 
-unfoldable pub openReadOnlyLines : House → ℕ → ℕ → ℕ → ℕ → List Line
-openReadOnlyLines h u s level c =
-    3 unless isId u
-    ∷ 3 unless isId s
-    ∷ 3 unless isLevel level
-    ∷ 4 unless isUser h u
-    ∷ 5 unless not (isSession h s)
-    ∷ 9 unless opens (user h u) level c
-    ∷ []
+abbrev pub openReadOnlyLines : House → ℕ → ℕ → ℕ → ℕ → List Line
+openReadOnlyLines h u s level c = anId u ∷ anId s ∷ aLevel level ∷ userExists h u ∷ sessionNew h s ∷ opens h u level c
 
-unfoldable pub readLines : House → ℕ → ℕ → ℕ → List Line
-readLines h s k v =
-    3 unless isId k
-    ∷ 3 unless isId s
-    ∷ 4 unless isScript h k
-    ∷ 4 unless isSession h s
-    ∷ 4 unless isDraft h k v
-    ∷ 8 unless sees (session h s) (user h (session h s .owner)) (draft h k v)
-    ∷ 9 unless coversScript (session h s) (script h k)
-    ∷ []
+abbrev pub readLines : House → ℕ → ℕ → ℕ → List Line
+readLines h s k v = draftAsked h s k v ++ (seesDraft h s v (draft h k v) ∷ levelCovers h s k ∷ categoriesCover h s k ∷ [])
 
-unfoldable pub updateLines : House → ℕ → ℕ → ℕ → List Line
+abbrev pub updateLines : House → ℕ → ℕ → ℕ → List Line
 updateLines h s k v =
-    3 unless isId k
-    ∷ 3 unless isId s
-    ∷ 4 unless isScript h k
-    ∷ 4 unless isSession h s
-    ∷ 4 unless isDraft h k v
-    ∷ 7 unless session h s .writes
-    ∷ 8 unless isSeated (session h s) (draft h k v)
-    ∷ 9 unless sameAsScript (session h s) (script h k)
-    ∷ 10 unless draftRoom h
-    ∷ []
+    draftAsked h s k v
+    ++ (writesIn h s ∷ seatedAt h s v (draft h k v) ∷ levelAsScript h s k ∷ categoriesAsScript h s k ∷ roomForDraft h ∷ [])
 
 unfoldable pub createLines : House → ℕ → ℕ → List Line
-createLines h s k =
-    3 unless isId k
-    ∷ 3 unless isId s
-    ∷ 4 unless isSession h s
-    ∷ 5 unless not (isScript h k)
-    ∷ 7 unless session h s .writes
-    ∷ 10 unless draftRoom h
-    ∷ []
+createLines h s k = anId k ∷ anId s ∷ sessionExists h s ∷ scriptNew h k ∷ writesIn h s ∷ roomForDraft h ∷ []
 
 unfoldable pub killLines : House → ℕ → ℕ → List Line
-killLines h u s =
-    3 unless isId u
-    ∷ 3 unless isId s
-    ∷ 4 unless isUser h u
-    ∷ 4 unless isSession h s
-    ∷ 6 unless mayKill (user h u) u (session h s)
-    ∷ []
+killLines h u s = anId u ∷ anId s ∷ userExists h u ∷ sessionExists h s ∷ endsSession h u s ∷ []
 
 unfoldable pub takeBackLines : House → ℕ → List Line
-takeBackLines h u =
-    3 unless isId u
-    ∷ 4 unless isUser h u
-    ∷ 6 unless user h u .admin
-    ∷ []
+takeBackLines h u = anId u ∷ userExists h u ∷ administers h u ∷ []
 
 -- ---- every kind: its conditions, and what it is granted where all hold
 abbrev pub linesOf : House → Request → List Line
@@ -265,12 +128,12 @@ linesOf h (Enrol u new sort level c admin) = enrolLines h u new sort level c adm
 linesOf h (Establish u room) = establishLines h u room
 linesOf h (JoinStaff u w room) = joinStaffLines h u w room
 linesOf h (LeaveStaff u w room) = leaveStaffLines h u w room
-linesOf h (JoinOutsider u w room level c) = joinOutsiderLines h u w room level c
+linesOf h (JoinOutsider u w room level c) = joinOutsiderLines h u w room level
 linesOf h (LeaveOutsider u w room) = leaveOutsiderLines h u w room
-linesOf h (Add u s v room) = addLines h u s v room
-linesOf h (Remove u s v room) = removeLines h u s v room
-linesOf h (Import u s₁ v s₂ room) = importLines h u s₁ v s₂ room
-linesOf h (Merge u s v room) = mergeLines h u s v room
+linesOf h (Add u k v room) = addLines h u k v room
+linesOf h (Remove u k v room) = removeLines h u k v room
+linesOf h (Import u k₁ v k₂ room) = importLines h u k₁ v k₂ room
+linesOf h (Merge u k v room) = mergeLines h u k v room
 linesOf h (Disband u room) = disbandLines h u room
 linesOf h (OpenInRoom u s room level c) = openInRoomLines h u s room level c
 linesOf h (OpenInHouse u s level c) = openInHouseLines h u s level c
@@ -289,10 +152,10 @@ grantOf (JoinStaff u w room) = Keep
 grantOf (LeaveStaff u w room) = Keep
 grantOf (JoinOutsider u w room level c) = Keep
 grantOf (LeaveOutsider u w room) = Keep
-grantOf (Add u s v room) = Keep
-grantOf (Remove u s v room) = Keep
-grantOf (Import u s₁ v s₂ room) = KeepNumbered
-grantOf (Merge u s v room) = Keep
+grantOf (Add u k v room) = Keep
+grantOf (Remove u k v room) = Keep
+grantOf (Import u k₁ v k₂ room) = KeepNumbered
+grantOf (Merge u k v room) = Keep
 grantOf (Disband u room) = Keep
 grantOf (OpenInRoom u s room level c) = Keep
 grantOf (OpenInHouse u s level c) = Keep
@@ -303,5 +166,10 @@ grantOf (Create s k) = KeepNumbered
 grantOf (Kill u s) = Keep
 grantOf (TakeBack u) = Ruling.TakeBack
 
+-- the ruling: the grant where all holds, and else the refusal, with its reason
+abbrev pub grantIf : Ruling → Asked → Ruling
+grantIf grant Holds = grant
+grantIf grant (Fails r) = Refused r
+
 unfoldable pub rulingOf : House → Request → Ruling
-rulingOf h q = judged (grantOf q) (linesOf h q)
+rulingOf h q = grantIf (grantOf q) (asked (linesOf h q))

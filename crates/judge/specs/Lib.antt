@@ -1,4 +1,3 @@
--- When each kind of request is refused, and with which number.
-pub mod Refusals
+-- When each kind of request is refused, and with which reason.
 pub mod Kinds
 pub mod Table

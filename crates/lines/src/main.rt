@@ -187,7 +187,10 @@ fn print_byte(byte: u8) {
 
 fn answer(ruling: Ruling) -> u8 {
     match ruling {
-        Ruling::Refused(n) => { if n < 63 { 192 + n } else { 255 } }
+        Ruling::Refused(reason) => {
+            let n = reason.number;
+            if n < 63 { 192 + n } else { 255 }
+        }
         Ruling::Pass => 0x80,
         Ruling::Keep => 0x80,
         Ruling::KeepNumbered => 0x81,

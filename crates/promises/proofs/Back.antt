@@ -88,7 +88,7 @@ module _ (d : Desk House Change) (q : Request) where
   made-so g c = go (change-kept q c) (way d q)
     where
       go : Kept (grantOf q) → Way d q so → Made
-      go e (by-rule n r s) = clash g (granted-told s)
+      go e (by-rule r k s) = clash g (granted-told s)
       go e (no-number a k l s) = clash g (granted-told s)
       go e (no-change a k l s) = clash g (granted-told s)
       go (inl e) (read a k s) = differ cc
@@ -124,7 +124,7 @@ module _ (d : Desk House Change) (q : Request) where
       same s = ap (λ (o : Outcome House Change). o .desk) s
 
       go : grantOf q ≡ Pass → Way d q so → so .desk ≡ d
-      go p (by-rule n r s) = same s
+      go p (by-rule r k s) = same s
       go p (no-number a k l s) = same s
       go p (no-change a k l s) = same s
       go p (read a k s) = same s
@@ -137,7 +137,7 @@ pub takes-newest : (d : Desk House Change) (u : ℕ) → grants (step deskRules 
 takes-newest d u g = go (way d (TakeBack u))
   where
     go : Way d (TakeBack u) (step deskRules d (TakeBack u)) → TakenBack deskRules d (step deskRules d (TakeBack u))
-    go (by-rule n r s) = clash g (granted-told d (TakeBack u) s)
+    go (by-rule r k s) = clash g (granted-told d (TakeBack u) s)
     go (no-number a k l s) = clash g (granted-told d (TakeBack u) s)
     go (no-change a k l s) = clash g (granted-told d (TakeBack u) s)
     go (read a k s) = differ cc

@@ -9,7 +9,8 @@ use Rattle.request.proofs.Absurd.{differ}
 use Rattle.records.specs.House.{House, emptyHouse}
 use Rattle.effects.specs.Effects.{applied}
 use Rattle.effects.specs.declared.Change.{Change}
-use Rattle.judge.specs.Refusals.{AllHold, FirstFailing}
+use Rattle.reasons.specs.Asking.{AllHold, FirstFailing}
+use Rattle.reasons.specs.declared.Reason.{Reason}
 use Rattle.judge.specs.Kinds.{linesOf, grantOf, rulingOf}
 use Rattle.judge.specs.declared.Ruling.{Ruling}
 use Rattle.judge.specs.declared.Ruling.the-variants.{Pass, Keep, KeepNumbered}
@@ -36,8 +37,8 @@ module _ (d : Desk House Change) (q : Request) where
   allowed r e all = granted-exactly (d .current) q .1 all ∙ e
 
   -- the first condition that fails refuses with its number, and nothing changes
-  pub refused : (n : ℕ) → FirstFailing n (linesOf (d .current) q) → step deskRules d q ≡ outcome d (Answer.Refused n)
-  refused n first = by-ruling (Ruling.Refused n) (refused-exactly (d .current) q n .1 first)
+  pub refused : (r : Reason) → FirstFailing r (linesOf (d .current) q) → step deskRules d q ≡ outcome d (Answer.Refused (r .number))
+  refused r first = by-ruling (Ruling.Refused r) (refused-exactly (d .current) q r .1 first)
 
   -- all conditions hold, and the kind changes nothing: Read
   pub passed : grantOf q ≡ Pass → AllHold (linesOf (d .current) q) → step deskRules d q ≡ outcome d Answer.Granted
@@ -63,28 +64,28 @@ records-after d c n = Past.records-after deskRules d c n
 -- ---- Demand 3, over any requests from any opening
 module _ (h : House) (q : Request) where
   shown-pass : (r : Ruling) → rulingOf h q ≡ r → verdictOf q r ≡ pass → grantShows q (grantOf q) ≡ nothing
-  shown-pass (Ruling.Refused n) e w = differ cc
+  shown-pass (Ruling.Refused r) e w = differ cc
   shown-pass Pass e w = ap (grantShows q) (conditions h q Pass refl e .given)
   shown-pass Keep e w = differ cc
   shown-pass KeepNumbered e w = differ cc
   shown-pass Ruling.TakeBack e w = differ cc
 
   shown-make : (c : Change) (r : Ruling) → rulingOf h q ≡ r → verdictOf q r ≡ make c → grantShows q (grantOf q) ≡ kept c
-  shown-make c (Ruling.Refused n) e w = differ cc
+  shown-make c (Ruling.Refused r) e w = differ cc
   shown-make c Pass e w = differ cc
   shown-make c Keep e w = let same : changeOf q 0 ≡ c = cc in ap (grantShows q) (conditions h q Keep refl e .given) ∙ ap kept same
   shown-make c KeepNumbered e w = differ cc
   shown-make c Ruling.TakeBack e w = differ cc
 
   shown-number : (g : ℕ → Change) (n : ℕ) (r : Ruling) → verdictOf q r ≡ issue g → kept (changeOf q n) ≡ kept (g n)
-  shown-number g n (Ruling.Refused m) w = differ cc
+  shown-number g n (Ruling.Refused r) w = differ cc
   shown-number g n Pass w = differ cc
   shown-number g n Keep w = differ cc
   shown-number g n KeepNumbered w = let same : _≡_ {A = ℕ → Change} (changeOf q) g = cc in ap (λ (f : ℕ → Change). kept (f n)) same
   shown-number g n Ruling.TakeBack w = differ cc
 
   shown-back : (r : Ruling) → rulingOf h q ≡ r → verdictOf q r ≡ undo → grantShows q (grantOf q) ≡ back
-  shown-back (Ruling.Refused n) e w = differ cc
+  shown-back (Ruling.Refused r) e w = differ cc
   shown-back Pass e w = differ cc
   shown-back Keep e w = differ cc
   shown-back KeepNumbered e w = differ cc

@@ -12,8 +12,9 @@ use Rattle.counter.specs.declared.Counter.{Counter}
 use Rattle.counter.specs.declared.Issued.{Issued}
 use Rattle.counter.specs.declared.Next.{Next}
 use Rattle.log.specs.Log.{past}
-use Rattle.history.specs.Machine.{Outcome, outcome, opened, step}
-use Rattle.history.specs.Desk.{deskRules, shown}
+use Rattle.judge.specs.declared.Ruling.{Ruling}
+use Rattle.history.specs.Machine.{Outcome, outcome, opened, ruled, step}
+use Rattle.history.specs.Desk.{verdictOf, deskRules, shown}
 use Rattle.history.specs.declared.Answer.{Answer}
 use Rattle.history.specs.declared.Desk.{Desk}
 use Rattle.batch.specs.Batch.{State, Batched}
@@ -53,11 +54,19 @@ pub one-opened : (last : ℕ) (r s : Desk) → shownOf r ≡ opened deskRules la
 one-opened last r s p q = determined p q
 
 -- d₁ and d₂ are what `shown` shows of the parts at exit
+one-outcome : {o : Outcome House Change} (d₁ d₂ : State) (r s : Answer) → outcome d₁ r ≡ o → outcome d₂ s ≡ o → (d₁ ≡ d₂) × (r ≡ s)
+one-outcome d₁ d₂ r s p q =
+    (ap (λ (o : Outcome House Change). o .desk) (determined p q), ap (λ (o : Outcome House Change). o .answer) (determined p q))
+
+-- two results of history::act: one-acted
+pub one-acted : (d : State) (request : Request) (ruling : Ruling) (d₁ d₂ : State) (r s : Answer)
+    → outcome d₁ r ≡ ruled deskRules d (verdictOf request ruling) → outcome d₂ s ≡ ruled deskRules d (verdictOf request ruling) → (d₁ ≡ d₂) × (r ≡ s)
+one-acted d request ruling d₁ d₂ r s p q = one-outcome d₁ d₂ r s p q
+
 -- two results of history::take: one-taken
 pub one-taken : (d : State) (request : Request) (d₁ d₂ : State) (r s : Answer)
     → outcome d₁ r ≡ step deskRules d request → outcome d₂ s ≡ step deskRules d request → (d₁ ≡ d₂) × (r ≡ s)
-one-taken d request d₁ d₂ r s p q =
-    (ap (λ (o : Outcome House Change). o .desk) (determined p q), ap (λ (o : Outcome House Change). o .answer) (determined p q))
+one-taken d request d₁ d₂ r s p q = one-outcome d₁ d₂ r s p q
 
 -- two results of batch::run: one-run
 pub one-run : (d : State) (requests answers : List ℕ) (place : ℕ) (d₁ d₂ : State) (r s : Ran) (answers₁ answers₂ : List ℕ)

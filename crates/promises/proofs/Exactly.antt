@@ -26,7 +26,7 @@ module _ (d : Desk House Change) (q : Request) where
   exactly = record { granted-allowed = λ g. only-then g (way d q); allowed-granted = λ a. always-then a (way d q) }
     where
       only-then : grants answer ≡ true → Way d q (step deskRules d q) → Allowed d q
-      only-then g (by-rule n r s) = clash g (told s)
+      only-then g (by-rule r e s) = clash g (told s)
       only-then g (no-number a k l s) = clash g (told s)
       only-then g (no-change a k l s) = clash g (told s)
       only-then g (read a k s) = record { conditions = a; number-left = λ e. differ cc; change-left = λ e. differ cc }
@@ -35,7 +35,7 @@ module _ (d : Desk House Change) (q : Request) where
       only-then g (back a k l t) = record { conditions = a; number-left = λ e. differ cc; change-left = λ _. l }
 
       always-then : Allowed d q → Way d q (step deskRules d q) → grants answer ≡ true
-      always-then w (by-rule n r s) = absurd (grant-is-none q n (sym (granted-exactly (d .current) q .1 (w .conditions)) ∙ r))
+      always-then w (by-rule r e s) = absurd (grant-is-none q r (sym (granted-exactly (d .current) q .1 (w .conditions)) ∙ e))
       always-then w (no-number a k l s) = absurd (w .number-left k l)
       always-then w (no-change a k l s) = absurd (w .change-left k l)
       always-then w (read a k s) = told s
@@ -48,7 +48,7 @@ module _ (d : Desk House Change) (q : Request) where
   which-grant g = go (way d q)
     where
       go : Way d q (step deskRules d q) → answer ≡ grantAfter (d .last) (grantOf q)
-      go (by-rule n r s) = clash g (told s)
+      go (by-rule r e s) = clash g (told s)
       go (no-number a k l s) = clash g (told s)
       go (no-change a k l s) = clash g (told s)
       go (read a k s) = rw k (ap (λ (o : Outcome House Change). o .answer) s)

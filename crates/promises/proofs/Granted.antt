@@ -2,23 +2,26 @@
 use Prim.Native.Nat.{ℕ, zero, suc}
 use mathlib.Core.Path.{_≡_, refl, sym, ap, _∙_}
 use mathlib.Core.Bool.{Bool, true, false}
-use mathlib.Core.List.{List}
-use lib.ListN.{getD}
+use mathlib.Core.List.{List, [], _∷_}
 use Rattle.records.specs.House.{House}
 use Rattle.request.specs.declared.Request.{Request}
+use Rattle.reasons.specs.Asking.{Line, _unless_, _because_, AllHold, none, more}
+use Rattle.reasons.proofs.Order.{Verdict, grant, refusal, verdict}
 use Rattle.judge.specs.declared.Ruling.{Ruling}
 use Rattle.judge.specs.declared.Ruling.the-variants.{Refused, Pass, Keep, KeepNumbered, TakeBack}
-use Rattle.judge.specs.Refusals.{Line, _unless_, AllHold, none, more}
 use Rattle.judge.specs.Kinds.{linesOf, grantOf, rulingOf}
-use Rattle.judge.proofs.Order.{all-granted, first-refused, Verdict, grant, refusal, verdict}
+use Rattle.judge.proofs.Order.{all-granted, first-refused}
 use Rattle.promises.proofs.Bools.{clash}
 
-abbrev pub fact : Line → Bool
-fact (n unless b) = b
+-- the fact of line k; the first is line 0
+abbrev pub factAt : List Line → ℕ → Bool
+factAt [] k = true
+factAt (n unless b because d ∷ lines) zero = b
+factAt (n unless b because d ∷ lines) (suc k) = factAt lines k
 
--- the fact of each line holds; the first is line 0
+-- the fact of each line holds
 abbrev pub Hold : List Line → Type 0
-Hold lines = (k : ℕ) → fact (getD lines k (0 unless true)) ≡ true
+Hold lines = (k : ℕ) → factAt lines k ≡ true
 
 each-holds : {lines : List Line} → AllHold lines → Hold lines
 each-holds none k = refl
@@ -26,7 +29,7 @@ each-holds (more e a) zero = e
 each-holds (more e a) (suc k) = each-holds a k
 
 abbrev pub isGrant : Ruling → Bool
-isGrant (Refused n) = false
+isGrant (Refused r) = false
 isGrant Pass = true
 isGrant Keep = true
 isGrant KeepNumbered = true
@@ -44,4 +47,4 @@ conditions h q g t e = go (verdict (linesOf h q))
   where
     go : Verdict (linesOf h q) → Granted (grantOf q) (linesOf h q) g
     go (grant a) = record { given = sym (all-granted (grantOf q) a) ∙ e; hold = each-holds a }
-    go (refusal n f) = clash t (ap isGrant (sym e ∙ first-refused (grantOf q) f))
+    go (refusal r f) = clash t (ap isGrant (sym e ∙ first-refused (grantOf q) f))

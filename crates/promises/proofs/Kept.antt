@@ -1,7 +1,7 @@
 -- Every granted change keeps the record rules. 01: "Every desk reached from an opening meets these record rules".
 use Prim.Native.Nat.{ℕ, _+_, _≤_, _<_}
 use mathlib.Core.Path.{_≡_, refl, subst}
-use mathlib.Core.Bool.{Bool, true, false, cond, not, _&&_, _||_}
+use mathlib.Core.Bool.{Bool, true, false, not, _&&_, _||_}
 use mathlib.Core.List.{[], _∷_}
 use mathlib.Core.Logic.{_⊎_, inl, inr}
 use native.Mathlib.Omega.{arith}
@@ -16,14 +16,16 @@ use Rattle.request.specs.declared.Request.the-variants.{Enrol, Establish, JoinS
 use Rattle.effects.specs.Effects.{effect}
 use Rattle.judge.specs.declared.Ruling.{Ruling}
 use Rattle.judge.specs.declared.Ruling.the-variants.{Refused, Pass, Keep, KeepNumbered}
-use Rattle.fields.specs.Fields.{isId, isRoomNumber, isSort, first, mayEnrol}
-use Rattle.conditions.specs.Conditions.{noUsers, isStaff}
-use Rattle.judge.specs.Kinds.{enrolLines, establishLines, joinStaffLines, leaveStaffLines, joinOutsiderLines, leaveOutsiderLines, addLines, removeLines, importLines, mergeLines, disbandLines, openInRoomLines, openInHouseLines, openReadOnlyLines, updateLines, createLines, killLines, linesOf, grantOf, rulingOf}
+use Rattle.fields.specs.Fields.{isId, toSixteen, fromOne, isSort, isPlain, isFirst}
+use Rattle.conditions.specs.Conditions.{noUsers, isUser, isStaff, levelWithin, categoriesWithin}
+use Rattle.conditions.specs.Labels.{Covered}
+use Rattle.reasons.specs.Shared.{pairNumbers, pairLed, draftLed, opens, draftAsked}
+use Rattle.judge.specs.Kinds.{enrolWhere, establishLines, importLines, disbandLines, createLines, killLines, linesOf, grantOf, rulingOf}
 use Rattle.promises.specs.Rules.{rules}
 use Rattle.promises.specs.Facts.{RoomNumber, LabelFits, Administered, Rules}
 use Rattle.promises.specs.Fits.{bytes, twoBytes, fits}
 use Rattle.promises.proofs.Empty.{empty-meets}
-use Rattle.promises.proofs.Bools.{clash, left, right, equal, _and_, _then_}
+use Rattle.promises.proofs.Bools.{clash, right, itself, equal, _and_, _then_}
 use Rattle.promises.proofs.Meaning.{rules-are}
 use Rattle.promises.proofs.Granted.{Hold, conditions}
 use Rattle.promises.proofs.Drafts.{ascending-later}
@@ -34,8 +36,8 @@ use Rattle.promises.proofs.Texts.{add, merge, imports, update, create}
 use Rattle.promises.proofs.Sweep.{remove, disband}
 
 -- ---- what the conditions of a kind say
-room-of : (room : ℕ) → isRoomNumber room ≡ true → RoomNumber room
-room-of room k = record { low = leb-true 1 room (left (leb 1 room) (leb room 16) k); high = leb-true room 16 (right (leb 1 room) (leb room 16) k) }
+room-of : (room : ℕ) → toSixteen room ≡ true → fromOne room ≡ true → RoomNumber room
+room-of room high low = record { low = leb-true 1 room low; high = leb-true room 16 high }
 
 id-of : (n : ℕ) → isId n ≡ true → n < 64
 id-of n k = omega (arith, leb-true n 63 k)
@@ -64,18 +66,25 @@ chief-of : (sort admin : ℕ) → (sort ≡ staff) ⊎ (sort ≡ outsider) → (
 chief-of sort admin (inl e) f k = e
 chief-of sort admin (inr e) f k = absurd (omega (arith, f e, eqb-true admin 1 k))
 
+plain-of : (sort field : ℕ) → isPlain sort field ≡ true → sort ≡ outsider → field ≡ 0
+plain-of sort field = (equal {m = sort} {n = outsider} then equal {m = field} {n = 0}) .says
+
 -- there is an administrator already, or the new user is one
-ruler-of : (h : House) (u new sort admin : ℕ) → (noUsers h || user h u .here) ≡ true → mayEnrol (noUsers h) (first u new sort admin) (user h u .admin) ≡ true
+ruler-of : (h : House) (u admin : ℕ) → (noUsers h || isUser h u) ≡ true → isFirst (noUsers h) admin 1 ≡ true → (noUsers h || user h u .admin) ≡ true
     → (eqb admin 1 ≡ true) ⊎ Administered (h .users)
-ruler-of h u new sort admin = go (noUsers h)
+ruler-of h u admin = go (noUsers h)
   where
-    go : (b : Bool) → (b || user h u .here) ≡ true → cond b (first u new sort admin) (user h u .admin) ≡ true → (eqb admin 1 ≡ true) ⊎ Administered (h .users)
-    go true p q = inl (right (eqb u new && eqb sort staff) (eqb admin 1) q)
-    go false p q = inr (record { who = u; is-here = p; is-admin = q })
+    go : (b : Bool) → (b || isUser h u) ≡ true → isFirst b admin 1 ≡ true → (b || user h u .admin) ≡ true → (eqb admin 1 ≡ true) ⊎ Administered (h .users)
+    go true p first q = inl first
+    go false p first q = inr (record { who = u; is-here = p; is-admin = q })
+
+-- a session that is opened has no more than its owner
+opens-of : (u : User) (level c : ℕ) → levelWithin level (u .level) ≡ true → categoriesWithin c (u .categories) ≡ true → Covered (u .level) (u .categories) level c
+opens-of u level c l k = covered (u .level) (u .categories) level c .says ((itself and itself) .shown (l, k))
 
 -- what a grant of the request q promises; n is the number of a change that takes none
 abbrev Next : House → ℕ → ℕ → Request → Ruling → Type 0
-Next h last n q (Refused m) = Unit {0}
+Next h last n q (Refused r) = Unit {0}
 Next h last n q Pass = Unit {0}
 Next h last n q Keep = Rules (effect h n q) last
 Next h last n q KeepNumbered = last < 4294967295 → Rules (effect h (last + 1) q) (last + 1)
@@ -84,36 +93,35 @@ Next h last n q Ruling.TakeBack = Unit {0}
 module _ (h : House) (last : ℕ) (R : Rules h last) where
   -- where f k says that condition k of the kind holds
   next : (n : ℕ) (q : Request) → fits q ≡ true → Hold (linesOf h q) → Next h last n q (grantOf q)
-  unfolding enrolLines establishLines joinStaffLines leaveStaffLines joinOutsiderLines leaveOutsiderLines addLines removeLines importLines mergeLines disbandLines openInRoomLines openInHouseLines openReadOnlyLines updateLines createLines killLines
+  unfolding enrolWhere establishLines pairNumbers pairLed draftLed importLines disbandLines opens draftAsked createLines killLines
   next n (Enrol u new sort level c admin) w f =
-      let plain = (equal {m = sort} {n = outsider} then (equal {m = level} {n = 0} and equal {m = c} {n = 0} and equal {m = admin} {n = 0})) .says (f 5) in
       let s = sort-of sort (f 3) in
       let l = label-of level c (bytes (u ∷ new ∷ sort ∷ level ∷ admin ∷ [])) (f 2) w in
-      enrol h last R new sort level c admin (id-of new (f 1)) (not-true (user h new .here) (f 7)) (known-sort sort s) l
-      (chief-of sort admin s (λ o. plain o .1)) (λ o. plain o .0) (ruler-of h u new sort admin (f 6) (f 8))
-  next n (Establish u room) w f = establish h last R u room (room-of room (f 1)) (f 2) (not-true (has (h .rooms) room) (f 3)) (f 4)
-  next n (JoinStaff u m room) w f = join-staff h last R m room (room-of room (f 2)) (f 4) (f 5) (staff-of (user h m) (f 7))
-  next n (LeaveStaff u m room) w f = leave h last R m room (room-of room (f 2)) (f 4)
+      enrol h last R new sort level c admin (id-of new (f 1)) (not-true (user h new .here) (f 9)) (known-sort sort s) l
+      (chief-of sort admin s (plain-of sort admin (f 7))) (λ o. (plain-of sort level (f 5) o, plain-of sort c (f 6) o)) (ruler-of h u admin (f 8) (f 12) (f 13))
+  next n (Establish u room) w f = establish h last R u room (room-of room (f 1) (f 2)) (f 3) (not-true (has (h .rooms) room) (f 4)) (f 5)
+  next n (JoinStaff u m room) w f = join-staff h last R m room (room-of room (f 2) (f 3)) (f 5) (f 6) (staff-of (user h m) (f 8))
+  next n (LeaveStaff u m room) w f = leave h last R m room (room-of room (f 2) (f 3)) (f 5)
   next n (JoinOutsider u m room level c) w f =
-      let l = label-of level c (bytes (u ∷ m ∷ room ∷ level ∷ [])) (f 3) w in
-      join-outsider h last R m room (room-of room (f 2)) (f 5) level c (f 6) (other-of (user h m) (f 5) (f 8)) l
-  next n (LeaveOutsider u m room) w f = leave h last R m room (room-of room (f 2)) (f 4)
-  next n (Add u s v room) w f = add h last R s v room (f 4) (f 8)
-  next n (Remove u s v room) w f = remove h last R s v room (room-of room (f 2))
-  next n (Import u s₁ v s₂ room) w f = λ l. imports h last R (ltb-true (length (h .drafts)) 256 (f 13)) l s₂ (f 7) (eqb-true (script h s₂ .origin) house (f 11))
-  next n (Merge u s v room) w f = merge h last R s v (eqb-true (script h s .origin) house (f 9))
-  next n (Disband u room) w f = disband room (room-of room (f 1)) h last R
+      let l = label-of level c (bytes (u ∷ m ∷ room ∷ level ∷ [])) (f 4) w in
+      join-outsider h last R m room (room-of room (f 2) (f 3)) (f 6) level c (f 7) (other-of (user h m) (f 6) (f 9)) l
+  next n (LeaveOutsider u m room) w f = leave h last R m room (room-of room (f 2) (f 3)) (f 5)
+  next n (Add u s v room) w f = add h last R s v room (f 5) (f 9)
+  next n (Remove u s v room) w f = remove h last R s v room (room-of room (f 2) (f 3))
+  next n (Import u s₁ v s₂ room) w f = λ l. imports h last R (ltb-true (length (h .drafts)) 256 (f 15)) l s₂ (f 8) (eqb-true (script h s₂ .origin) house (f 12))
+  next n (Merge u s v room) w f = merge h last R s v (eqb-true (script h s .origin) house (f 10))
+  next n (Disband u room) w f = disband room (room-of room (f 1) (f 2)) h last R
   next n (OpenInRoom u x room level c) w f =
-      let l = label-of level c (bytes (u ∷ x ∷ room ∷ level ∷ [])) (f 3) w in
-      let o = covered (user h u .level) (user h u .categories) level c .says (f 8) in
-      open-in-room h last R x (id-of x (f 1)) u level c (f 4) l o room (room-of room (f 2) .low) (f 5) (f 7)
+      let l = label-of level c (bytes (u ∷ x ∷ room ∷ level ∷ [])) (f 4) w in
+      let o = opens-of (user h u) level c (f 9) (f 10) in
+      open-in-room h last R x (id-of x (f 1)) u level c (f 5) l o room (room-of room (f 2) (f 3) .low) (f 6) (f 8)
   next n (OpenInHouse u x level c) w f =
       let l = label-of level c (bytes (u ∷ x ∷ level ∷ [])) (f 2) w in
-      let o = covered (user h u .level) (user h u .categories) level c .says (f 6) in
+      let o = opens-of (user h u) level c (f 6) (f 7) in
       open-in-house h last R x (id-of x (f 1)) u level c (f 3) l o (staff-of (user h u) (f 5))
   next n (OpenReadOnly u x level c) w f = open-read-only h last R x (id-of x (f 1)) u level c (f 3) (label-of level c (bytes (u ∷ x ∷ level ∷ [])) (f 2) w)
   next n (Read x s v) w f = tt
-  next n (Update x s v) w f = λ l. update h last R (ltb-true (length (h .drafts)) 256 (f 8)) l x s v (f 4) (f 6)
+  next n (Update x s v) w f = λ l. update h last R (ltb-true (length (h .drafts)) 256 (f 9)) l x s v (f 4) (f 6)
   next n (Create x s) w f = λ l. create h last R (ltb-true (length (h .drafts)) 256 (f 5)) l x s (id-of s (f 0)) (not-true (script h s .here) (f 3)) (f 4)
   next n (Kill u x) w f = kill h last R x (id-of x (f 1))
   next n (TakeBack u) w f = tt

@@ -1,6 +1,6 @@
 -- "A refusal is one listed number, changes nothing in the records", and its byte is "C0 plus n": of any desk and any request.
 use Prim.Native.Nat.{ℕ, _≤_, _<_}
-use mathlib.Core.Path.{_≡_, refl, sym, ap, _∙_}
+use mathlib.Core.Path.{_≡_, refl, sym, ap, subst, _∙_}
 use mathlib.Core.Bool.{Bool, true, false, _&&_, _||_}
 use mathlib.Core.List.{List, [], _∷_}
 use native.Mathlib.Omega.{arith}
@@ -13,7 +13,6 @@ use Rattle.records.specs.Lists.{any, all}
 use Rattle.records.specs.House.{House}
 use Rattle.effects.specs.declared.Change.{Change}
 use Rattle.judge.specs.Table.{refusals}
-use Rattle.judge.specs.declared.Ruling.{Ruling}
 use Rattle.judge.proofs.Order.{refused-by-table}
 use Rattle.history.specs.Machine.{Desk, Outcome, step, answers}
 use Rattle.history.specs.Desk.{deskRules}
@@ -84,9 +83,9 @@ module _ (d : Desk House Change) (q : Request) (n : ℕ) where
       left-so s = ap (λ (o : Outcome House Change). o .desk) s
 
       go : Way d q (step deskRules d q) → Refusal d q (step deskRules d q) n
-      go (by-rule m r s) =
-          let z : m ≡ n = cc (given s) in
-          refused-with (in-row (refused-by-table (d .current) q n (r ∙ ap Ruling.Refused z))) (left-so s)
+      go (by-rule r k s) =
+          let z : r .number ≡ n = cc (given s) in
+          refused-with (in-row (subst (λ (m : ℕ). any (eqb m) (refusals q) ≡ true) z (refused-by-table (d .current) q r k))) (left-so s)
       go (Way.no-number a k l s) = let z : 11 ≡ n = cc (given s) in refused-with (no-number (sym z) k) (left-so s)
       go (Way.no-change a k l s) = let z : 12 ≡ n = cc (given s) in refused-with (no-change (sym z) k) (left-so s)
       go (read a k s) = let g = given s in differ cc

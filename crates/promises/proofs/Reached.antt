@@ -9,7 +9,7 @@ use Rattle.records.specs.Lists.{all}
 use Rattle.records.specs.House.{House}
 use Rattle.effects.specs.Effects.{applied}
 use Rattle.effects.specs.declared.Change.{Change}
-use Rattle.judge.specs.Refusals.{AllHold}
+use Rattle.reasons.specs.Asking.{AllHold}
 use Rattle.judge.specs.declared.Ruling.{Ruling}
 use Rattle.judge.specs.declared.Ruling.the-variants.{Keep, KeepNumbered}
 use Rattle.judge.specs.Kinds.{linesOf, grantOf, rulingOf}
@@ -55,7 +55,7 @@ module _ (d : Desk House Change) (S : Fine d) where
           (sound-keep deskRules (Meets (d .last)) d S (Meets n) (λ h k. later h (d .last) k n le fits-in) c n next)
 
       go : Way d q (step deskRules d q) → Fine (step deskRules d q .desk)
-      go (by-rule n r s) = so s S
+      go (by-rule r e s) = so s S
       go (no-number a k l s) = so s S
       go (no-change a k l s) = so s S
       go (read a k s) = so s S

@@ -144,7 +144,7 @@ step-seen P d q S = go (way d q)
         (drafts-after P′ (d .current) n q (more (d .current) (now-holds deskRules (Drafts P) d S)) m)
 
     go : Way d q (step deskRules d q) → Sound deskRules G′ (step deskRules d q .desk)
-    go (by-rule n r s) = so s same
+    go (by-rule r e s) = so s same
     go (no-number a k l s) = so s same
     go (no-change a k l s) = so s same
     go (read a k s) = so s same

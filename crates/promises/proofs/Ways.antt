@@ -1,16 +1,18 @@
 -- The ways of one request at any desk: what the answer was, why, and what the desk is then.
 use mathlib.Core.Path.{_≡_, refl, ap}
-use Prim.Native.Nat.{ℕ, _+_}
+use Prim.Native.Nat.{_+_}
 use native.Mathlib.Decide.{ℕ-discrete}
 use lib.ListN.{length}
 use Rattle.request.specs.declared.Request.{Request}
 use Rattle.records.specs.House.{House}
 use Rattle.effects.specs.declared.Change.{Change}
-use Rattle.judge.specs.Refusals.{AllHold}
+use Rattle.reasons.specs.Asking.{AllHold}
+use Rattle.reasons.specs.declared.Reason.{Reason}
+use Rattle.reasons.proofs.Order.{Verdict, grant, refusal, verdict}
 use Rattle.judge.specs.Kinds.{linesOf, grantOf, rulingOf}
 use Rattle.judge.specs.declared.Ruling.{Ruling}
 use Rattle.judge.specs.declared.Ruling.the-variants.{Pass, Keep, KeepNumbered, TakeBack}
-use Rattle.judge.proofs.Order.{Verdict, grant, refusal, verdict, refused-exactly, grant-is-none}
+use Rattle.judge.proofs.Order.{refused-exactly, grant-is-none}
 use Rattle.counter.specs.Numbers.{top}
 use Rattle.history.specs.Machine.{undo, Desk, Outcome, outcome, keepChange, step}
 use Rattle.history.specs.Desk.{changeOf, verdictOf, deskRules}
@@ -20,7 +22,7 @@ use Rattle.promises.proofs.Trace.{none-left, some-left}
 use Rattle.promises.proofs.Demands.{allowed, refused, passed, made, numbered, spent}
 
 pub data Way (d : Desk House Change) (q : Request) (o : Outcome House Change) : Type 0 where
-  by-rule : (n : ℕ) → rulingOf (d .current) q ≡ Ruling.Refused n → o ≡ outcome d (Answer.Refused n) → Way d q o
+  by-rule : (r : Reason) → rulingOf (d .current) q ≡ Ruling.Refused r → o ≡ outcome d (Answer.Refused (r .number)) → Way d q o
   no-number : AllHold (linesOf (d .current) q) → grantOf q ≡ KeepNumbered → d .last ≡ top → o ≡ outcome d (Answer.Refused 11) → Way d q o
   no-change : AllHold (linesOf (d .current) q) → grantOf q ≡ TakeBack → length (d .log) ≡ 0 → o ≡ outcome d (Answer.Refused 12) → Way d q o
   read : AllHold (linesOf (d .current) q) → grantOf q ≡ Pass → o ≡ outcome d Answer.Granted → Way d q o
@@ -33,7 +35,7 @@ pub way : (d : Desk House Change) (q : Request) → Way d q (step deskRules d q)
 way d q = go (verdict (linesOf (d .current) q))
   where
     by-grant : (r : Ruling) → grantOf q ≡ r → AllHold (linesOf (d .current) q) → Way d q (step deskRules d q)
-    by-grant (Ruling.Refused n) e a = absurd (grant-is-none q n e)
+    by-grant (Ruling.Refused r) e a = absurd (grant-is-none q r e)
     by-grant Pass e a = read a e (passed d q e a)
     by-grant Keep e a = plain a e (made d q e a)
     by-grant KeepNumbered e a = go (ℕ-discrete (d .last) top)
@@ -52,4 +54,4 @@ way d q = go (verdict (linesOf (d .current) q))
 
     go : Verdict (linesOf (d .current) q) → Way d q (step deskRules d q)
     go (grant a) = by-grant (grantOf q) refl a
-    go (refusal n f) = by-rule n (refused-exactly (d .current) q n .1 f) (refused d q n f)
+    go (refusal r f) = by-rule r (refused-exactly (d .current) q r .1 f) (refused d q r f)

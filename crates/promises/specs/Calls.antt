@@ -9,7 +9,7 @@ use Rattle.request.specs.declared.Request.{Request}
 use Rattle.request.specs.declared.Request.the-variants.{TakeBack}
 use Rattle.records.specs.House.{emptyHouse}
 use Rattle.effects.specs.Effects.{applied}
-use Rattle.judge.specs.Refusals.{AllHold}
+use Rattle.reasons.specs.Asking.{AllHold}
 use Rattle.judge.specs.Kinds.{linesOf}
 use Rattle.history.specs.Machine.{outcome, step, run}
 use Rattle.history.specs.Desk.{deskRules}

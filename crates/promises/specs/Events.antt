@@ -19,7 +19,7 @@ grantShows q Keep = kept (changeOf q 0)
 grantShows q TakeBack = back
 grantShows q Pass = nothing
 grantShows q KeepNumbered = nothing
-grantShows q (Refused n) = nothing
+grantShows q (Refused r) = nothing
 
 abbrev pub eventOf : Request → Answer → Event Change
 eventOf q Answer.Granted = grantShows q (grantOf q)

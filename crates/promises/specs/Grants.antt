@@ -10,7 +10,7 @@ use Rattle.request.specs.declared.Request.{Request}
 use Rattle.records.specs.Lists.{any}
 use Rattle.records.specs.House.{House}
 use Rattle.effects.specs.declared.Change.{Change}
-use Rattle.judge.specs.Refusals.{AllHold}
+use Rattle.reasons.specs.Asking.{AllHold}
 use Rattle.judge.specs.Kinds.{linesOf, grantOf}
 use Rattle.judge.specs.Table.{refusals}
 use Rattle.judge.specs.declared.Ruling.{Ruling}
@@ -44,7 +44,7 @@ grantAfter last KeepNumbered = Numbered (last + 1)
 grantAfter last Keep = Granted
 grantAfter last Pass = Granted
 grantAfter last TakeBack = Granted
-grantAfter last (Ruling.Refused n) = Refused n
+grantAfter last (Ruling.Refused r) = Refused (r .number)
 
 -- the numbers that a kind can be refused with: those of its row of the refusal table; 11 "the last number issued is 4,294,967,295" where it gets a number;
 -- 12 "the kept count is 0" for Take back

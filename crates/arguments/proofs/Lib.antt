@@ -1,0 +1,2 @@
+-- The laws that the functions' proofs cite, and what a word leads to.
+pub mod Words

@@ -1,0 +1,2 @@
+-- What the words behind the program's name ask for.
+pub mod Arguments

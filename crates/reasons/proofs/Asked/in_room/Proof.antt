@@ -1,0 +1,11 @@
+-- `in_room` asks one line.
+use borrow.Author.Needs.{needs}
+use Rattle.reasons.proofs.Asking.{same-line, next}
+use Rattle.reasons.proofs.Asked.in_room.Statement.{statement}
+use Rattle.reasons.proofs.Asked.in_room.Tie as tie
+
+returns-2 : tie.Need-returns-2
+returns-2 c = next (c .before .before .before .before .enum-told .given .1) (same-line _ _ _ (c .of-user .ensures) (c .before .before .is-in .ensures) (λ k. c .before .before .before .user-at .ensures k .rooms) (c .before .only .ensures))
+
+pub in-room-spec : {M : Type 1} → statement M
+in-room-spec = tie.close (tie.spec (λ c. search needs) (λ c. search needs) (λ c. search needs) (λ c κs. search needs) (λ c κs. search needs) (λ c κs. search needs) (λ c κs. search needs) returns-2)

@@ -1,0 +1,128 @@
+-- Every reason explains the answer of the desk, in every state; and of bytes it is the request's that they begin with.
+use Prim.Native.Nat.{ℕ}
+use mathlib.Core.Path.{_≡_, refl, sym, ap, _∙_}
+use mathlib.Core.Bool.{Bool, true, false, not}
+use mathlib.Core.List.{List, [], _∷_, _++_}
+use borrow.Author.Tests.{eqb-true, not-false}
+use lib.Dec.{eqb}
+use lib.ListN.{length}
+use Rattle.request.specs.Writing.{written}
+use Rattle.request.specs.declared.Request.{Request}
+use Rattle.request.specs.declared.Request.the-variants.{Enrol, Establish, JoinStaff, LeaveStaff, JoinOutsider, LeaveOutsider, Add, Remove, Import, Merge, Disband, OpenInRoom, OpenInHouse, OpenReadOnly, Read, Update, Create, Kill, TakeBack}
+use Rattle.request.proofs.RoundTrip.{written-is-read}
+use Rattle.request.proofs.Ways.{empty}
+use Rattle.records.specs.House.{House}
+use Rattle.effects.specs.declared.Change.{Change}
+use Rattle.counter.specs.Numbers.{top, nextAfter}
+use Rattle.reasons.specs.Reasons.{bare, reason}
+use Rattle.reasons.specs.Asking.{Line, _unless_, _because_, asked, both, told, FirstFailing, here, later, numbers, ascendFrom}
+use Rattle.reasons.specs.Shared.{pairNumbers, pairLed, draftLed, opens, draftAsked}
+use Rattle.reasons.specs.declared.Reason.{Reason}
+use Rattle.reasons.specs.declared.Asked.{Asked}
+use Rattle.reasons.specs.declared.Asked.the-variants.{Holds, Fails}
+use Rattle.reasons.proofs.Asking.{more}
+use Rattle.reasons.proofs.Order.{first-fails, Verdict, grant, refusal, verdict, zeros-if-all, all-if-zero}
+use Rattle.judge.specs.declared.Ruling.{Ruling}
+use Rattle.judge.specs.declared.Ruling.the-variants.{Refused, Pass, Keep, KeepNumbered}
+use Rattle.judge.specs.Kinds.{enrolWhere, establishLines, importLines, disbandLines, createLines, killLines, takeBackLines, linesOf, grantOf, grantIf, rulingOf}
+use Rattle.judge.proofs.Order.{grant-is-none}
+use Rattle.judge.proofs.Sound.{first-told}
+use Rattle.history.specs.Machine as machine
+use Rattle.history.specs.Machine.{Desk, step, takeBack, issued}
+use Rattle.history.specs.Desk.{verdictOf, changeOf, deskRules}
+use Rattle.why.specs.Why.{afterLines, deskLines, reasonOf, reasonOfBytes}
+use Rattle.why.specs.Explained.{refusalOf, askedBy, TrueOf, of-records, no-number, no-change, Explained}
+
+-- ---- the numbers of all that is asked ascend from 3 on
+lines-ascend : (h : House) (last kept : ℕ) (q : Request) → ascendFrom 3 (numbers (deskLines h last kept q)) ≡ true
+unfolding enrolWhere establishLines pairNumbers pairLed draftLed importLines disbandLines opens draftAsked createLines killLines takeBackLines
+lines-ascend h last kept (Enrol u new sort level c admin) = refl
+lines-ascend h last kept (Establish u room) = refl
+lines-ascend h last kept (JoinStaff u w room) = refl
+lines-ascend h last kept (LeaveStaff u w room) = refl
+lines-ascend h last kept (JoinOutsider u w room level c) = refl
+lines-ascend h last kept (LeaveOutsider u w room) = refl
+lines-ascend h last kept (Add u k v room) = refl
+lines-ascend h last kept (Remove u k v room) = refl
+lines-ascend h last kept (Import u k₁ v k₂ room) = refl
+lines-ascend h last kept (Merge u k v room) = refl
+lines-ascend h last kept (Disband u room) = refl
+lines-ascend h last kept (OpenInRoom u s room level c) = refl
+lines-ascend h last kept (OpenInHouse u s level c) = refl
+lines-ascend h last kept (OpenReadOnly u s level c) = refl
+lines-ascend h last kept (Read s k v) = refl
+lines-ascend h last kept (Update s k v) = refl
+lines-ascend h last kept (Create s k) = refl
+lines-ascend h last kept (Kill u s) = refl
+lines-ascend h last kept (TakeBack u) = refl
+
+-- ---- the number is the one that the desk answers with
+module _ (d : Desk House Change) (q : Request) where
+  abbrev after : Ruling → Asked
+  after g = asked (afterLines g (d .last) (length (d .log)))
+
+  by-grant : (g : Ruling) (a : Asked) → ((r : Reason) → g ≡ Refused r → ⊥)
+      → told (both a (after g)) .number ≡ refusalOf (machine.ruled deskRules d (verdictOf q (grantIf g a)) .answer)
+  unfolding asked takeBack
+  by-grant g (Fails x) is-grant = refl
+  by-grant (Refused r) Holds is-grant = absurd (is-grant r refl)
+  by-grant Pass Holds is-grant = refl
+  by-grant Keep Holds is-grant = refl
+  by-grant KeepNumbered Holds is-grant = go (eqb (d .last) top) refl
+    where
+      go : (t : Bool) → eqb (d .last) top ≡ t → told (after KeepNumbered) .number ≡ refusalOf (issued deskRules d (changeOf q) (nextAfter (d .last)) .answer)
+      go true e = rw e
+      go false e = rw e
+  by-grant Ruling.TakeBack Holds is-grant = go (eqb (length (d .log)) 0) refl
+    where
+      go : (t : Bool) → eqb (length (d .log)) 0 ≡ t → told (after Ruling.TakeBack) .number ≡ refusalOf (takeBack deskRules d .answer)
+      go true e = rw e
+      go false e = rw e
+
+  answered : reasonOf (d .current) (d .last) (length (d .log)) q .number ≡ refusalOf (step deskRules d q .answer)
+  unfolding reasonOf step rulingOf
+  answered =
+      ap (λ (a : Asked). told a .number) (more (linesOf (d .current) q) (afterLines (grantOf q) (d .last) (length (d .log))))
+      ∙ by-grant (grantOf q) (asked (linesOf (d .current) q)) (grant-is-none q)
+
+  -- ---- what is named is true of the desk
+  -- the first that fails of two lists is of the one or of the other
+  split : (xs ys : List Line) {r : Reason} {P : Type 0} → (FirstFailing r xs → P) → (FirstFailing r ys → P) → FirstFailing r (xs ++ ys) → P
+  split [] ys f g x = g x
+  split (n unless b because e ∷ xs) ys f g (here p w) = f (here p w)
+  split (n unless b because e ∷ xs) ys f g (later p x) = split xs ys (λ y. f (later p y)) g x
+
+  after-true : (g : Ruling) {r : Reason} → FirstFailing r (afterLines g (d .last) (length (d .log))) → TrueOf d r
+  after-true KeepNumbered (here p w) = rw w (no-number (eqb-true (d .last) top (not-false (eqb (d .last) top) p)))
+  after-true Ruling.TakeBack (here p w) = rw w (no-change (eqb-true (length (d .log)) 0 (not-false (eqb (length (d .log)) 0) p)))
+
+  named-true : {r : Reason} → FirstFailing r (askedBy d q) → TrueOf d r
+  named-true {r} f = split (linesOf (d .current) q) (afterLines (grantOf q) (d .last) (length (d .log))) (λ x. of-records (first-told (d .current) q r x)) (after-true (grantOf q)) f
+
+  -- ---- the theorem
+  pub explained : Explained d q (reasonOf (d .current) (d .last) (length (d .log)) q)
+  unfolding reasonOf
+  explained =
+      record {
+        as-answered = answered;
+        all-zeros = λ a. zeros-if-all a;
+        all-held = all-if-zero (askedBy d q) (lines-ascend (d .current) (d .last) (length (d .log)) q);
+        first-named = first (verdict (askedBy d q));
+        true-of = λ n. named-true (first (verdict (askedBy d q)) n);
+      }
+    where
+      first : Verdict (askedBy d q) → (told (asked (askedBy d q)) .number ≡ 0 → ⊥) → FirstFailing (told (asked (askedBy d q))) (askedBy d q)
+      first (grant a) n = absurd (n (ap (λ (r : Reason). r .number) (zeros-if-all a)))
+      first (refusal r f) n =
+          let e : told (asked (askedBy d q)) ≡ r = ap told (first-fails f) in
+          rw e f
+
+-- ---- of bytes
+module _ (h : House) (last kept : ℕ) where
+  -- "bytes past a whole frame" are not read
+  pub frame-alone : (q : Request) (rest : List ℕ) → reasonOfBytes h last kept (written q ++ rest) ≡ reasonOf h last kept q
+  frame-alone q rest = rw (written-is-read q rest)
+
+  -- 2 for no bytes
+  pub no-bytes : reasonOfBytes h last kept [] ≡ bare 2
+  no-bytes = rw (sym (empty [] refl))

@@ -1,0 +1,3 @@
+-- Why a request is answered as it is.
+pub mod Why
+pub mod Explained
