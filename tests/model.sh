@@ -1,6 +1,7 @@
 #!/bin/sh
-# Compares the programs with the model of document 01, on fresh seeds each time: `desk` on generated runs, `edges` on generated batches.
-# SEEDS="7 8" repeats those seeds alone; COUNT is a run's length; DESK and EDGES name other programs.
+# Compares the programs with the model of document 01, on fresh seeds each time: `desk` on generated runs, every second one with --why, and
+# `edges` on generated batches.
+# SEEDS="7 8" repeats those seeds alone, each with and without --why; COUNT is a run's length; DESK and EDGES name other programs.
 set -eu
 root=$(CDPATH='' cd -- "$(dirname -- "$0")/.." && pwd -P)
 desk=${DESK:-$root/desk}
@@ -50,21 +51,23 @@ show() {
 
 requests=0
 granted=0
-compare_run() { # SEED COUNT
+reasons=0
+compare_run() { # SEED COUNT [--why]
     "$model" generate "$1" "$2" > "$work/run"
-    "$model" run < "$work/run" > "$work/expected" || fail "seed $1: the model broke a rule"
+    "$model" run ${3:-} < "$work/run" > "$work/expected" || fail "seed $1: the model broke a rule"
     status=0
-    "$desk" < "$work/run" > "$work/got" 2> "$work/errors" || status=$?
+    "$desk" ${3:-} < "$work/run" > "$work/got" 2> "$work/errors" || status=$?
     if ! cmp -s "$work/expected" "$work/got"; then
         ordinal=$(first_difference "$work/expected" "$work/got")
-        echo "seed $1, request $ordinal differs (SEEDS=$1 COUNT=$2 runs it again)"
+        echo "seed $1${3:+ $3}, request $ordinal differs (SEEDS=$1 COUNT=$2 runs it again)"
         show "$("$model" requests < "$work/run" | awk -v n="$ordinal" '$1 == n { print $2 }')" "$ordinal"
         exit 1
     fi
     [ "$status" = 0 ] || fail "seed $1: the program ended with $status"
-    set -- $(awk '{ n++ } $3 ~ /^8/ { g++ } END { print n + 0, g + 0 }' "$work/expected")
+    set -- $(awk '{ n++ } $3 ~ /^8/ { g++ } NF == 9 { w++ } END { print n + 0, g + 0, w + 0 }' "$work/expected")
     requests=$((requests + $1))
     granted=$((granted + $2))
+    reasons=$((reasons + $3))
 }
 
 : > "$work/batches"
@@ -88,10 +91,14 @@ compare_batches() { # SEED
 # The document's own run first: a model that fails it compares nothing.
 sh "$root/tests/runs.sh" "$model" document >/dev/null || fail "the model fails the document's run"
 
+# The stored runs meet every condition of every kind, so that each reason stands in a file that can be read.
+"$model" stored "$root"/tests/runs/*.hex > "$work/stored" || { cat "$work/stored"; fail "the stored runs miss a condition"; }
+echo "stored: $(tail -n 1 "$work/stored")"
+
 # Opened at 4,294,967,294: one number, then 11. The program opens with 0, so the model shows this alone.
 printf '\001\000\000\000\005\000\003\001\021\000\000\002\000\001\025\000\000\025\000\001' > "$work/run"
-"$model" run --opened 4294967294 < "$work/run" | tail -n 2 > "$work/got"
-printf '3 15 81 4294967295\n4 15 CB -\n' | cmp -s - "$work/got" || fail "the model fails at the last number"
+"$model" run --opened 4294967294 --why < "$work/run" | tail -n 2 > "$work/got"
+printf '3 15 81 4294967295 0 00 0 0 0\n4 15 CB - 11 00 0 4294967295 4294967295\n' | cmp -s - "$work/got" || fail "the model fails at the last number"
 
 # The stored cases of edges, which were written by hand.
 cases=$root/crates/edges/stdin
@@ -115,6 +122,7 @@ if [ -n "${SEEDS:-}" ]; then
     seeds=$SEEDS
     for seed in $seeds; do
         compare_run "$seed" "$count"
+        compare_run "$seed" "$count" --why
         compare_batches "$seed"
     done
 else
@@ -122,20 +130,30 @@ else
     first=$(($(date +%s) * 1000))
     seeds=$(awk -v first="$first" -v runs="$runs" 'BEGIN { for (i = 0; i < runs; i++) printf "%.0f ", first + i }')
     echo "seeds $first to $((first + runs - 1)), $count requests each; $((first + 999)), $long requests"
-    for seed in $seeds; do compare_run "$seed" "$count"; done
+    whys=
+    for seed in $seeds; do
+        if [ $((seed % 2)) = 0 ]; then
+            compare_run "$seed" "$count"
+        else
+            compare_run "$seed" "$count" --why
+            whys="$whys $seed"
+        fi
+    done
     # A long run uses the same slots again and again.
-    compare_run $((first + 999)) "$long"
+    compare_run $((first + 999)) "$long" --why
     echo "seeds $first to $((first + files - 1)), batches of at most $batch_count requests each"
     for seed in $(echo "$seeds" | tr ' ' '\n' | head -n "$files"); do compare_batches "$seed"; done
 fi
-echo "$requests requests compared, $granted granted, no difference"
+echo "$requests requests compared, $granted granted, $reasons with their reasons, no difference"
 set -- $(awk '{ stops[$2]++ } END { print NR, stops[0] + 0, stops[1] + 0, stops[2] + 0, stops[13] + 0 }' "$work/batches")
 echo "$1 batches compared: stop 0 $2, stop 1 $3, stop 2 $4, stop 13 $5, no difference"
 
 if [ -z "${SEEDS:-}" ]; then
     [ "$requests" -ge 200000 ] || fail "fewer than 200000 requests"
     [ $((2 * granted)) -ge "$requests" ] || fail "fewer than half granted"
+    [ "$reasons" -ge 100000 ] || fail "fewer than 100000 reasons"
     [ "$files" -ge 40 ] && [ "$2" -ge 1000 ] && [ "$3" -ge 1000 ] && [ "$4" -ge 1000 ] && [ "$5" -ge 1000 ] || fail "too few batches"
-    "$model" coverage "$count" $seeds > "$work/coverage" || { cat "$work/coverage"; fail "coverage incomplete"; }
+    # Of the runs with reasons, so that each condition's was compared.
+    "$model" coverage "$count" $whys > "$work/coverage" || { cat "$work/coverage"; fail "coverage incomplete"; }
     echo "coverage complete: $(tail -n 1 "$work/coverage")"
 fi

@@ -1,11 +1,12 @@
 #!/bin/sh
-# Compares the program's lines for one long stream read from a file with those for the same stream read through a pipe in odd pieces.
+# Compares the program's lines for one long stream read from a file with those for the same stream read through a pipe in odd pieces,
+# and its lines with --why, in pieces, with the model's.
 # SEED takes another stream than the fixed one: what is tried is the reading, and not each seed has as many bytes. DESK names another program.
 set -eu
 root=$(CDPATH='' cd -- "$(dirname -- "$0")/.." && pwd -P)
 desk=${DESK:-$root/desk}
 seed=${SEED:-1}
-count=520000
+count=540000
 least=3000000
 
 fail() { echo "pieces.sh: seed $seed: $*" >&2; exit 1; }
@@ -25,8 +26,13 @@ bytes=$(wc -c < "$work/stream")
 
 "$desk" < "$work/stream" > "$work/file" || fail "the program failed on the file"
 # The pipe's status is the program's; a writer that failed leaves its mark.
-{ "$model" pieces < "$work/stream" || : > "$work/unwritten"; } | "$desk" > "$work/pipe" || fail "the program failed on the pipe"
-[ ! -e "$work/unwritten" ] || fail "the pieces were not all written"
+in_pieces() { # [--why]
+    { "$model" pieces < "$work/stream" || : > "$work/unwritten"; } | "$desk" "$@" || fail "the program failed on the pipe"
+    [ ! -e "$work/unwritten" ] || fail "the pieces were not all written"
+}
+in_pieces > "$work/pipe"
+in_pieces --why > "$work/why"
+"$model" run --why < "$work/stream" > "$work/expected" || fail "the model broke a rule"
 
 # A line for each request, so that no byte was left out.
 last=$(tail -n 1 "$work/file")
@@ -34,4 +40,5 @@ last=$(tail -n 1 "$work/file")
 lines=$(wc -l < "$work/file")
 [ "$lines" -eq "$count" ] || fail "$lines lines for $count requests"
 cmp "$work/file" "$work/pipe" || fail "the lines differ"
-echo "pieces: seed $seed: $bytes bytes, $lines lines, the same from a file and in pieces"
+cmp "$work/expected" "$work/why" || fail "the lines with --why differ from the model's"
+echo "pieces: seed $seed: $bytes bytes, $lines lines, the same from a file and in pieces; with --why the model's"

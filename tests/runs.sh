@@ -1,5 +1,5 @@
 #!/bin/sh
-# Compares the program's lines with the stored runs of tests/runs.
+# Compares the program's lines with the stored runs of tests/runs: NAME.out, and with --why NAME.why where that stands.
 # runs.sh [PROGRAM [NAME..]]: another program, or some runs alone; DESK also names the program.
 set -eu
 root=$(cd "$(dirname "$0")/.." && pwd)
@@ -43,27 +43,37 @@ if [ $# -eq 0 ]; then
         set -- "$@" "${name%.hex}"
     done
 fi
-failed=0
-total=0
-for name in "$@"; do
-    expected=$root/tests/runs/$name.out
-    plain "$root/tests/runs/$name.hex" > "$work/hex"
-    bytes < "$work/hex" > "$work/run"
+# Compares what the program prints for the run, with the word given, with a stored file.
+compare() { # EXPECTED [WORD]
+    expected=$1
+    shift
     status=0
-    "$desk" < "$work/run" > "$work/got" || status=$?
+    "$desk" "$@" < "$work/run" > "$work/got" || status=$?
     if cmp -s "$expected" "$work/got" && [ "$status" = 0 ]; then
         total=$((total + $(wc -l < "$expected")))
-        continue
+        return
     fi
     failed=$((failed + 1))
     ordinal=$(awk -v other="$work/got" '
         { if ((getline line < other) <= 0) line = "(nothing)" }
         line != $0 { print NR; found = 1; exit }
         END { if (!found) print NR + 1 }' "$expected")
-    echo "run $name, request $ordinal differs: $(sed -n "${ordinal}p" "$work/hex")"
+    echo "run $name${1:+ $1}, request $ordinal differs: $(sed -n "${ordinal}p" "$work/hex")"
     echo "  expected: $(sed -n "${ordinal}p" "$expected")"
     echo "  program:  $(sed -n "${ordinal}p" "$work/got")"
     [ "$status" = 0 ] || echo "  the program ended with $status"
+}
+
+failed=0
+total=0
+whys=0
+for name in "$@"; do
+    plain "$root/tests/runs/$name.hex" > "$work/hex"
+    bytes < "$work/hex" > "$work/run"
+    compare "$root/tests/runs/$name.out"
+    [ -e "$root/tests/runs/$name.why" ] || continue
+    whys=$((whys + 1))
+    compare "$root/tests/runs/$name.why" --why
 done
-[ "$failed" = 0 ] || { echo "$failed of $# runs differ"; exit 1; }
-echo "$# runs, $total lines, no difference"
+[ "$failed" = 0 ] || { echo "$failed of $(($# + whys)) comparisons differ"; exit 1; }
+echo "$# runs, $whys of them with their reasons too, $total lines, no difference"

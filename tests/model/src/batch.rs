@@ -93,7 +93,7 @@ impl Case {
     }
 }
 
-fn bytes(hex: &str) -> Result<Vec<u8>, String> {
+pub fn bytes(hex: &str) -> Result<Vec<u8>, String> {
     let digits: Option<Vec<u8>> =
         hex.chars().filter(|c| *c != '_').map(|c| c.to_digit(16).map(|d| d as u8)).collect();
     let digits = digits.ok_or("REQUESTS has a letter that is no hex digit")?;

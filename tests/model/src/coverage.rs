@@ -1,7 +1,10 @@
-// What a set of runs reached: pairs of kind and answer, clauses of the rows, and events worth a name.
+// What a set of runs reached: pairs of kind and answer, conditions with their reasons, and events worth a name.
 
+use crate::batch::bytes;
+use crate::conditions::CONDITIONS;
 use crate::desk::*;
 use crate::generate::generate;
+use crate::reasons::Failed;
 use crate::request::{frame, Frame, Request, KINDS};
 use std::collections::{BTreeMap, BTreeSet};
 
@@ -26,72 +29,6 @@ fn allowed(kind: u8) -> Vec<u8> {
     std::iter::once(granted).chain(refusals.iter().map(|n| 0xC0 + n)).collect()
 }
 
-/// Clauses that share a pair with others, so that the pair alone would not show them.
-const CLAUSES: [(u8, &str); 62] = [
-    (0x01, "user over 63"),
-    (0x01, "level over 7"),
-    (0x01, "sort not 0 or 2"),
-    (0x01, "admin not 0 or 1"),
-    (0x01, "sort 2 with level"),
-    (0x01, "sort 2 with categories"),
-    (0x01, "sort 2 with admin"),
-    (0x01, "empty desk: u not new"),
-    (0x01, "empty desk: not staff"),
-    (0x01, "empty desk: not administrator"),
-    (0x01, "no house administrator"),
-    (0x02, "user over 63"),
-    (0x02, "room not 1..16"),
-    (0x03, "no such user"),
-    (0x03, "no such w"),
-    (0x03, "no such room"),
-    (0x04, "no such w"),
-    (0x05, "level over 7"),
-    (0x05, "room not 1..16"),
-    (0x05, "no such w"),
-    (0x06, "no such w"),
-    (0x07, "house not among the places"),
-    (0x07, "room among the places"),
-    (0x07, "no such script"),
-    (0x07, "no such draft"),
-    (0x07, "draft of another script"),
-    (0x07, "script over 63"),
-    (0x08, "no such draft"),
-    (0x08, "draft of another script"),
-    (0x09, "no such script"),
-    (0x09, "no such script2"),
-    (0x09, "no such draft"),
-    (0x09, "draft of another script"),
-    (0x09, "script over 63"),
-    (0x09, "origin of script1 not the room"),
-    (0x09, "origin of script2 not the house"),
-    (0x09, "levels differ"),
-    (0x09, "categories differ"),
-    (0x0A, "room not among the places"),
-    (0x0A, "origin not house"),
-    (0x0A, "draft of another script"),
-    (0x10, "session over 63"),
-    (0x10, "level over 7"),
-    (0x10, "no such room"),
-    (0x10, "above the owner's level"),
-    (0x10, "more categories than the owner"),
-    (0x11, "above the owner's level"),
-    (0x11, "more categories than the owner"),
-    (0x12, "above the owner's level"),
-    (0x12, "more categories than the owner"),
-    (0x13, "no such session"),
-    (0x13, "no such script"),
-    (0x13, "no such draft"),
-    (0x13, "draft of another script"),
-    (0x13, "RW: place not among them"),
-    (0x13, "RO: no place shared"),
-    (0x14, "draft of another script"),
-    (0x14, "levels differ"),
-    (0x14, "categories differ"),
-    (0x16, "neither owns; RO has no room"),
-    (0x16, "neither owns; house has no lead"),
-    (0x16, "neither owns nor leads its room"),
-];
-
 const EVENTS: [&str; 17] = [
     "the 256th live draft",
     "a draft after one of 256 was deleted",
@@ -115,7 +52,10 @@ const EVENTS: [&str; 17] = [
 #[derive(Default)]
 pub struct Coverage {
     pairs: BTreeMap<(u8, u8), usize>,
-    clauses: BTreeMap<(u8, &'static str), usize>,
+    /// By the condition's place in the table and the kind of request.
+    conditions: BTreeMap<(usize, u8), usize>,
+    /// Reasons that are in no row of the table.
+    strays: BTreeSet<String>,
     events: BTreeMap<&'static str, usize>,
     taken_back: BTreeMap<u8, usize>,
     requests: usize,
@@ -126,6 +66,33 @@ impl Coverage {
     fn event(&mut self, name: &'static str) {
         debug_assert!(EVENTS.contains(&name));
         *self.events.entry(name).or_default() += 1;
+    }
+
+    fn refused(&mut self, kind: u8, n: u8, failed: &Failed) {
+        match CONDITIONS.iter().position(|c| c.met(kind, n, failed)) {
+            Some(row) => *self.conditions.entry((row, kind)).or_default() += 1,
+            None => {
+                self.strays.insert(format!("{kind:02X}: {n} {failed:?} is in no row of the table"));
+            }
+        }
+    }
+
+    /// Prints how often each kind met its conditions under the numbers asked for; what was never met, and what no row has.
+    fn unmet(&self, asked: impl Fn(u8) -> bool) -> Vec<String> {
+        let mut missing: Vec<String> = self.strays.iter().cloned().collect();
+        for (row, condition) in CONDITIONS.iter().enumerate().filter(|(_, c)| asked(c.n)) {
+            let name = format!("{} {:02X} {}", condition.n, condition.record, condition.clause);
+            let mut line = format!("{name}:");
+            for kind in condition.kinds {
+                let times = self.conditions.get(&(row, *kind)).copied().unwrap_or(0);
+                line += &format!(" {kind:02X}:{times}");
+                if times == 0 {
+                    missing.push(format!("{kind:02X} {name}"));
+                }
+            }
+            println!("{line}");
+        }
+        missing
     }
 
     fn run(&mut self, bytes: &[u8], opened: u32) {
@@ -153,8 +120,8 @@ impl Coverage {
             self.requests += 1;
             self.granted += answer.granted() as usize;
             *self.pairs.entry((request.kind(), answer.byte())).or_default() += 1;
-            if let Answer::Refused(n, clause) = answer {
-                *self.clauses.entry((request.kind(), clause)).or_default() += 1;
+            if let Answer::Refused(n, failed) = answer {
+                self.refused(request.kind(), n, &failed);
                 if n == 12 && in_a_row >= 32 {
                     self.event("32 take-backs in a row, the 33rd refused with 12");
                 }
@@ -277,11 +244,9 @@ pub fn report(seeds: &[u64], count: usize) -> bool {
             missing.push(format!("{byte:02X}"));
         }
     }
-    for (kind, clause) in CLAUSES {
-        if !all.clauses.contains_key(&(kind, clause)) {
-            missing.push(format!("{kind:02X} {clause}"));
-        }
-    }
+    // Refusal 11 is met near the top alone.
+    missing.extend(all.unmet(|n| n != 11));
+    missing.extend(near.unmet(|n| n == 11));
     for event in EVENTS {
         let times = all.events.get(event).copied().unwrap_or(0);
         println!("{times} {event}");
@@ -294,11 +259,27 @@ pub fn report(seeds: &[u64], count: usize) -> bool {
             missing.push(format!("{kind:02X} taken back"));
         }
     }
-    println!("{requests} requests, {granted} granted, {} clauses", all.clauses.len());
+    println!("{requests} requests, {granted} granted, {} conditions", all.conditions.len());
     if 2 * granted < requests {
         missing.push("half of the requests granted".into());
     }
-    for name in &missing {
+    complete(&missing)
+}
+
+/// Whether stored runs, each the text of a file of commented hex, meet every condition that a desk opened with 0 can.
+pub fn stored(texts: &[String]) -> Result<bool, String> {
+    let mut all = Coverage::default();
+    for text in texts {
+        let hex: String = text.lines().map(|line| line.split('#').next().unwrap_or("")).collect();
+        all.run(&bytes(&hex.replace(' ', ""))?, 0);
+    }
+    let missing = all.unmet(|n| n != 11);
+    println!("{} runs, {} requests, {} conditions", texts.len(), all.requests, all.conditions.len());
+    Ok(complete(&missing))
+}
+
+fn complete(missing: &[String]) -> bool {
+    for name in missing {
         println!("missing: {name}");
     }
     missing.is_empty()

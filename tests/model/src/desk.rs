@@ -1,6 +1,7 @@
-// The desk of document 01: records, the refusals row by row, effects, kept changes by replay.
+// The desk of document 01: records, effects, kept changes by replay.
 
 use crate::places::Places;
+use crate::reasons::{Failed, Reason};
 use crate::request::Request::{self, *};
 use std::collections::BTreeMap;
 
@@ -8,6 +9,8 @@ pub const HOUSE: u8 = 0;
 pub const STAFF: u8 = 0;
 pub const FREELANCER: u8 = 1;
 pub const OUTSIDER: u8 = 2;
+pub const RO: u8 = 0;
+pub const RW: u8 = 1;
 pub const MOST_DRAFTS: usize = 256;
 pub const MOST_KEPT: usize = 32;
 
@@ -57,8 +60,8 @@ pub struct House {
 pub enum Answer {
     Granted,
     Numbered(u32),
-    /// The refusal's number and the clause of its row.
-    Refused(u8, &'static str),
+    /// The refusal's number and the condition that failed.
+    Refused(u8, Failed),
 }
 
 impl Answer {
@@ -74,10 +77,21 @@ impl Answer {
         !matches!(self, Answer::Refused(..))
     }
 
+    pub fn number(&self) -> Option<u32> {
+        if let Answer::Numbered(number) = self { Some(*number) } else { None }
+    }
+
+    pub fn reason(&self) -> Reason {
+        match self {
+            Answer::Refused(n, failed) => Reason::refusal(*n, failed),
+            _ => Reason::bare(0),
+        }
+    }
+
     /// The answer as the batch writes it.
     pub fn bytes(&self) -> Vec<u8> {
         let mut out = vec![self.byte()];
-        if let Answer::Numbered(number) = self {
+        if let Some(number) = self.number() {
             out.extend(number.to_be_bytes());
         }
         out
@@ -103,27 +117,17 @@ pub struct Desk {
     pub base: House,
 }
 
-type Clause = Option<&'static str>;
-
-fn when(fact: bool, clause: &'static str) -> Clause {
-    fact.then_some(clause)
-}
-
-fn covers(level: u8, c: u16, other_level: u8, other_c: u16) -> bool {
-    level >= other_level && other_c & !c == 0
-}
-
 impl House {
-    fn user(&self, u: u8) -> &User {
+    pub fn user(&self, u: u8) -> &User {
         &self.users[&u]
     }
 
-    fn leads(&self, u: u8, room: u8) -> bool {
+    pub fn leads(&self, u: u8, room: u8) -> bool {
         self.user(u).led.contains(room)
     }
 
-    fn places(&self, v: u32) -> &Places {
-        &self.drafts[&v].places
+    pub fn places(&self, v: u32) -> Places {
+        self.drafts[&v].places
     }
 
     /// These records after the changes, oldest first.
@@ -275,8 +279,8 @@ impl Desk {
     }
 
     pub fn answer(&mut self, request: &Request) -> Answer {
-        if let Some((n, clause)) = self.refusal(request) {
-            return Answer::Refused(n, clause);
+        if let Some((n, failed)) = self.refusal(request) {
+            return Answer::Refused(n, failed);
         }
         match request {
             Read { .. } => Answer::Granted,
@@ -297,237 +301,6 @@ impl Desk {
                 number.map_or(Answer::Granted, Answer::Numbered)
             }
         }
-    }
-
-    /// The lowest refusal that applies. Rows are asked in order, so each row may rely on those before it.
-    pub fn refusal(&self, request: &Request) -> Option<(u8, &'static str)> {
-        let rows: [(u8, fn(&Desk, &Request) -> Clause); 10] = [
-            (3, Desk::row_3),
-            (4, Desk::row_4),
-            (5, Desk::row_5),
-            (6, Desk::row_6),
-            (7, Desk::row_7),
-            (8, Desk::row_8),
-            (9, Desk::row_9),
-            (10, Desk::row_10),
-            (11, Desk::row_11),
-            (12, Desk::row_12),
-        ];
-        rows.iter().find_map(|(n, row)| row(self, request).map(|clause| (*n, clause)))
-    }
-
-    fn row_3(&self, request: &Request) -> Clause {
-        let user = |u: u8| when(u > 63, "user over 63");
-        let script = |n: u8| when(n > 63, "script over 63");
-        let session = |s: u8| when(s > 63, "session over 63");
-        let room = |r: u8| when(!(1..=16).contains(&r), "room not 1..16");
-        let level = |l: u8| when(l > 7, "level over 7");
-        match *request {
-            Enrol { u, new, sort, level: l, c, admin } => user(u)
-                .or(user(new))
-                .or(level(l))
-                .or(when(sort != STAFF && sort != OUTSIDER, "sort not 0 or 2"))
-                .or(when(admin > 1, "admin not 0 or 1"))
-                .or(when(sort == OUTSIDER && l != 0, "sort 2 with level"))
-                .or(when(sort == OUTSIDER && c != 0, "sort 2 with categories"))
-                .or(when(sort == OUTSIDER && admin != 0, "sort 2 with admin")),
-            Establish { u, room: r } | Disband { u, room: r } => user(u).or(room(r)),
-            JoinStaff { u, w, room: r } | LeaveStaff { u, w, room: r } | LeaveOutsider { u, w, room: r } => {
-                user(u).or(user(w)).or(room(r))
-            }
-            JoinOutsider { u, w, room: r, level: l, .. } => user(u).or(user(w)).or(room(r)).or(level(l)),
-            Add { u, script: n, room: r, .. }
-            | Remove { u, script: n, room: r, .. }
-            | Merge { u, script: n, room: r, .. } => user(u).or(script(n)).or(room(r)),
-            Import { u, script1, script2, room: r, .. } => {
-                user(u).or(script(script1)).or(script(script2)).or(room(r))
-            }
-            OpenRoom { u, s, room: r, level: l, .. } => user(u).or(session(s)).or(room(r)).or(level(l)),
-            OpenHouse { u, s, level: l, .. } | OpenRo { u, s, level: l, .. } => {
-                user(u).or(session(s)).or(level(l))
-            }
-            Read { s, script: n, .. } | Update { s, script: n, .. } | Create { s, script: n } => {
-                session(s).or(script(n))
-            }
-            Kill { u, s } => user(u).or(session(s)),
-            TakeBack { u } => user(u),
-        }
-    }
-
-    fn row_4(&self, request: &Request) -> Clause {
-        let h = &self.house;
-        let user = |u: u8| when(!h.users.contains_key(&u), "no such user");
-        let room = |r: u8| when(!h.rooms.contains(r), "no such room");
-        let script = |n: u8| when(!h.scripts.contains_key(&n), "no such script");
-        let session = |s: u8| when(!h.sessions.contains_key(&s), "no such session");
-        let draft = |n: u8, v: u32| match h.drafts.get(&v) {
-            None => Some("no such draft"),
-            Some(draft) => when(draft.script != n, "draft of another script"),
-        };
-        match *request {
-            // On a desk without users the acting user need not exist.
-            Enrol { u, .. } => if h.users.is_empty() { None } else { user(u) },
-            Establish { u, .. } => user(u),
-            JoinStaff { u, w, room: r }
-            | LeaveStaff { u, w, room: r }
-            | JoinOutsider { u, w, room: r, .. }
-            | LeaveOutsider { u, w, room: r } => {
-                user(u).or(when(!h.users.contains_key(&w), "no such w")).or(room(r))
-            }
-            Add { u, script: n, v, room: r }
-            | Remove { u, script: n, v, room: r }
-            | Merge { u, script: n, v, room: r } => user(u).or(room(r)).or(script(n)).or(draft(n, v)),
-            Import { u, script1, v, script2, room: r } => user(u)
-                .or(room(r))
-                .or(script(script1))
-                .or(when(!h.scripts.contains_key(&script2), "no such script2"))
-                .or(draft(script1, v)),
-            Disband { u, room: r } | OpenRoom { u, room: r, .. } => user(u).or(room(r)),
-            OpenHouse { u, .. } | OpenRo { u, .. } => user(u),
-            Read { s, script: n, v } | Update { s, script: n, v } => session(s).or(script(n)).or(draft(n, v)),
-            Create { s, .. } => session(s),
-            Kill { u, s } => user(u).or(session(s)),
-            TakeBack { u } => user(u),
-        }
-    }
-
-    fn row_5(&self, request: &Request) -> Clause {
-        let h = &self.house;
-        match *request {
-            Enrol { new, .. } => when(h.users.contains_key(&new), "user exists"),
-            Establish { room, .. } => when(h.rooms.contains(room), "room exists"),
-            OpenRoom { s, .. } | OpenHouse { s, .. } | OpenRo { s, .. } => {
-                when(h.sessions.contains_key(&s), "session exists")
-            }
-            Create { script, .. } => when(h.scripts.contains_key(&script), "script exists"),
-            _ => None,
-        }
-    }
-
-    fn row_6(&self, request: &Request) -> Clause {
-        let h = &self.house;
-        let administrator = |u: u8| when(!h.user(u).administrator, "no house administrator");
-        match *request {
-            Enrol { u, new, sort, admin, .. } => {
-                if h.users.is_empty() {
-                    when(u != new, "empty desk: u not new")
-                        .or(when(sort != STAFF, "empty desk: not staff"))
-                        .or(when(admin != 1, "empty desk: not administrator"))
-                } else {
-                    administrator(u)
-                }
-            }
-            Establish { u, .. } | TakeBack { u } => administrator(u),
-            JoinStaff { u, room, .. }
-            | LeaveStaff { u, room, .. }
-            | JoinOutsider { u, room, .. }
-            | LeaveOutsider { u, room, .. }
-            | Add { u, room, .. }
-            | Remove { u, room, .. }
-            | Import { u, room, .. }
-            | Merge { u, room, .. }
-            | Disband { u, room } => when(!h.leads(u, room), "u doesn't lead the room"),
-            Kill { u, s } => {
-                let session = &h.sessions[&s];
-                if session.owner == u {
-                    return None;
-                }
-                match session.place {
-                    None => Some("neither owns; RO has no room"),
-                    Some(HOUSE) => Some("neither owns; house has no lead"),
-                    Some(room) => when(!h.leads(u, room), "neither owns nor leads its room"),
-                }
-            }
-            _ => None,
-        }
-    }
-
-    fn row_7(&self, request: &Request) -> Clause {
-        let h = &self.house;
-        match *request {
-            JoinStaff { w, .. } | LeaveStaff { w, .. } => when(h.user(w).sort != STAFF, "w not staff"),
-            JoinOutsider { w, .. } => when(h.user(w).sort == STAFF, "w staff"),
-            LeaveOutsider { w, .. } => when(h.user(w).sort != FREELANCER, "w no freelancer"),
-            OpenHouse { u, .. } => when(h.user(u).sort != STAFF, "u not staff"),
-            Update { s, .. } | Create { s, .. } => when(h.sessions[&s].place.is_none(), "RO session"),
-            _ => None,
-        }
-    }
-
-    fn row_8(&self, request: &Request) -> Clause {
-        let h = &self.house;
-        match *request {
-            JoinStaff { w, room, .. } | JoinOutsider { w, room, .. } => {
-                when(h.user(w).joined.contains(room), "already in")
-            }
-            LeaveStaff { w, room, .. } | LeaveOutsider { w, room, .. } => {
-                when(!h.user(w).joined.contains(room), "not in")
-            }
-            Add { v, room, .. } => when(!h.places(v).contains(HOUSE), "house not among the places")
-                .or(when(h.places(v).contains(room), "room among the places")),
-            Remove { v, room, .. } => when(!h.places(v).contains(room), "room not among the places"),
-            Merge { script, v, room, .. } => when(!h.places(v).contains(room), "room not among the places")
-                .or(when(h.scripts[&script].origin != HOUSE, "origin not house")),
-            Import { script1, script2, room, .. } => {
-                when(h.scripts[&script1].origin != room, "origin of script1 not the room")
-                    .or(when(h.scripts[&script2].origin != HOUSE, "origin of script2 not the house"))
-            }
-            OpenRoom { u, room, .. } => when(!h.user(u).joined.contains(room), "u not in the room"),
-            Read { s, v, .. } => {
-                let session = &h.sessions[&s];
-                match session.place {
-                    Some(place) => when(!h.places(v).contains(place), "RW: place not among them"),
-                    None => {
-                        let owner = h.user(session.owner);
-                        let shared = !owner.joined.is_disjoint(h.places(v));
-                        let house = owner.sort == STAFF && h.places(v).contains(HOUSE);
-                        when(!shared && !house, "RO: no place shared")
-                    }
-                }
-            }
-            Update { s, v, .. } => {
-                let place = h.sessions[&s].place.expect("row 7 refused RO");
-                when(!h.places(v).contains(place), "place not among them")
-            }
-            _ => None,
-        }
-    }
-
-    fn row_9(&self, request: &Request) -> Clause {
-        let h = &self.house;
-        match *request {
-            OpenRoom { u, level, c, .. } | OpenHouse { u, level, c, .. } | OpenRo { u, level, c, .. } => {
-                let owner = h.user(u);
-                when(level > owner.level, "above the owner's level")
-                    .or(when(c & !owner.c != 0, "more categories than the owner"))
-            }
-            Read { s, script, .. } => {
-                let (session, script) = (&h.sessions[&s], &h.scripts[&script]);
-                when(!covers(session.level, session.c, script.level, script.c), "not covered")
-            }
-            Update { s, script, .. } => {
-                let (session, script) = (&h.sessions[&s], &h.scripts[&script]);
-                when(session.level != script.level, "levels differ")
-                    .or(when(session.c != script.c, "categories differ"))
-            }
-            Import { script1, script2, .. } => {
-                let (one, two) = (&h.scripts[&script1], &h.scripts[&script2]);
-                when(one.level != two.level, "levels differ").or(when(one.c != two.c, "categories differ"))
-            }
-            _ => None,
-        }
-    }
-
-    fn row_10(&self, request: &Request) -> Clause {
-        when(issues(request) && self.house.drafts.len() >= MOST_DRAFTS, "256 live drafts")
-    }
-
-    fn row_11(&self, request: &Request) -> Clause {
-        when(issues(request) && self.last == u32::MAX, "last number issued")
-    }
-
-    fn row_12(&self, request: &Request) -> Clause {
-        when(matches!(request, TakeBack { .. }) && self.kept == 0, "kept count 0")
     }
 }
 

@@ -359,17 +359,23 @@ impl Player {
         let kind = self.chance.one_of(&KINDS).unwrap();
         let Some(request) = self.propose(kind) else { return self.any(kind) };
         match self.chance.below(100) {
-            0..=44 => self.other_record(request),
-            45..=84 => self.other_byte(request),
+            0..=39 => self.other_record(request),
+            40..=74 => self.other_byte(request),
+            // More than one, so that the order of the conditions shows.
+            75..=79 => {
+                let once = self.other_byte(request);
+                self.other_byte(once)
+            }
+            80..=84 => self.beyond(request),
             85..=92 => request,
             _ => self.any(kind),
         }
     }
 
-    /// In order but for one fact of row 4, 8 or 9 that a random change seldom meets.
+    /// In order but for one fact of row 3, 4, 8 or 9 that a random change seldom meets.
     fn near_miss(&mut self) -> Option<Request> {
         let (room, u) = self.led_room()?;
-        Some(match self.chance.below(7) {
+        Some(match self.chance.below(9) {
             0 => {
                 let (script, v) = self.draft(|d, _| d.places.contains(HOUSE) && d.places.contains(room))?;
                 Add { u, script, v, room }
@@ -389,16 +395,29 @@ impl Player {
                 let (script, v) = self.draft(|_, _| true)?;
                 Read { s, script, v }
             }
+            4 => {
+                let u = self.user(|u| u.administrator)?;
+                let new = self.free(|h, n| h.users.contains_key(&n))?;
+                let (level, c) = if self.chance.percent(50) { (0, 0) } else { self.label() };
+                let level = level * self.chance.below(2) as u8;
+                let admin = self.chance.one_of(&[1, 1, 2])?;
+                Enrol { u, new, sort: OUTSIDER, level, c, admin }
+            }
+            5 => {
+                let (script1, v) = self.draft(|_, s| s.origin == room)?;
+                let script2 = self.free(|h, n| h.scripts.contains_key(&n))?;
+                Import { u, script1, v, script2, room }
+            }
             near => {
                 let (script1, v) = self.draft(|_, s| s.origin == room)?;
                 let (other, w) = self.draft(|_, _| true)?;
                 let (level, c) = self.labels[self.chance.below(self.labels.len())];
                 match near {
-                    4 => {
+                    6 => {
                         let script2 = self.script(|s| s.origin != HOUSE)?;
                         Import { u, script1, v, script2, room }
                     }
-                    5 => {
+                    7 => {
                         let script2 = self.script(|s| s.origin == HOUSE && (s.level, s.c) != (level, c))?;
                         Import { u, script1, v, script2, room }
                     }
@@ -413,10 +432,12 @@ impl Player {
     fn wrong_first(&mut self) -> Request {
         let (level, c) = self.label();
         let u = self.chance.below(64) as u8;
-        match self.chance.below(4) {
-            0 => Enrol { u, new: (u + 1) % 64, sort: STAFF, level, c, admin: 1 },
-            1 => Enrol { u, new: u, sort: OUTSIDER, level: 0, c: 0, admin: 0 },
-            2 => Enrol { u, new: u, sort: STAFF, level, c, admin: 0 },
+        let other = (u + 1) % 64;
+        match self.chance.below(5) {
+            0 => Enrol { u, new: other, sort: STAFF, level, c, admin: 1 },
+            1 => Enrol { u, new: other, sort: OUTSIDER, level: 0, c: 0, admin: 0 },
+            2 => Enrol { u, new: u, sort: OUTSIDER, level: 0, c: 0, admin: 0 },
+            3 => Enrol { u, new: u, sort: STAFF, level, c, admin: 0 },
             _ => Enrol { u, new: u, sort: FREELANCER, level, c, admin: 1 },
         }
     }
@@ -497,6 +518,17 @@ impl Player {
             1 => self.chance.next() as u8,
             _ => self.chance.one_of(&bounds).unwrap(),
         };
+        whole(&bytes)
+    }
+
+    /// The request with some body bytes over every bound.
+    fn beyond(&mut self, request: Request) -> Request {
+        let mut bytes = request.bytes();
+        for byte in &mut bytes[1..] {
+            if self.chance.percent(40) {
+                *byte = 64 + self.chance.below(192) as u8;
+            }
+        }
         whole(&bytes)
     }
 

@@ -50,3 +50,9 @@ impl Places {
         (0..32).filter(|p| self.contains(*p))
     }
 }
+
+impl From<Places> for u32 {
+    fn from(places: Places) -> u32 {
+        places.0
+    }
+}
