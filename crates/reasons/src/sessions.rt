@@ -124,10 +124,10 @@ impl Asked {
         let Asked::Holds = self else {
             return self;
         };
-        let over = records::session_at(records, session as usize);
-        let under = records::script_at(records, script as usize);
-        let fact = over.level == under.level;
-        of_session(9, fact, session, over.level as u32, under.level as u32)
+        let found = records::session_at(records, session as usize);
+        let wanted = records::script_at(records, script as usize);
+        let fact = found.level == wanted.level;
+        of_session(9, fact, session, found.level as u32, wanted.level as u32)
     }
 
     pub fn categories_as_script(self, records: &Cells, session: u8, script: u8) -> Asked
@@ -136,15 +136,15 @@ impl Asked {
         let Asked::Holds = self else {
             return self;
         };
-        let over = records::session_at(records, session as usize);
-        let under = records::script_at(records, script as usize);
-        let fact = over.categories == under.categories;
+        let found = records::session_at(records, session as usize);
+        let wanted = records::script_at(records, script as usize);
+        let fact = found.categories == wanted.categories;
         of_session(
             9,
             fact,
             session,
-            over.categories as u32,
-            under.categories as u32,
+            found.categories as u32,
+            wanted.categories as u32,
         )
     }
 }

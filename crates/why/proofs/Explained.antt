@@ -6,7 +6,9 @@ use mathlib.Core.List.{List, [], _∷_, _++_}
 use borrow.Author.Tests.{eqb-true, not-false}
 use lib.Dec.{eqb}
 use lib.ListN.{length}
+use Rattle.request.specs.Reading.{frameOf}
 use Rattle.request.specs.Writing.{written}
+use Rattle.request.specs.declared.Frame.the-variants.{Whole, Unknown, Cut}
 use Rattle.request.specs.declared.Request.{Request}
 use Rattle.request.specs.declared.Request.the-variants.{Enrol, Establish, JoinStaff, LeaveStaff, JoinOutsider, LeaveOutsider, Add, Remove, Import, Merge, Disband, OpenInRoom, OpenInHouse, OpenReadOnly, Read, Update, Create, Kill, TakeBack}
 use Rattle.request.proofs.RoundTrip.{written-is-read}
@@ -118,11 +120,21 @@ module _ (d : Desk House Change) (q : Request) where
           rw e f
 
 -- ---- of bytes
+-- "agrees with the judge for every whole frame": whatever is behind it
+pub frame-explained : (d : Desk House Change) (b : List ℕ) (q : Request) → frameOf b ≡ Whole q → Explained d q (reasonOfBytes (d .current) (d .last) (length (d .log)) b)
+frame-explained d b q f = rw f (explained d q)
+
 module _ (h : House) (last kept : ℕ) where
-  -- "bytes past a whole frame" are not read
+  -- what is behind a whole frame is not read
   pub frame-alone : (q : Request) (rest : List ℕ) → reasonOfBytes h last kept (written q ++ rest) ≡ reasonOf h last kept q
   frame-alone q rest = rw (written-is-read q rest)
 
-  -- 2 for no bytes
+  -- "for other bytes gives 1 or 2 and zeros", 2 for no bytes
+  pub unknown-kind : (b : List ℕ) → frameOf b ≡ Unknown → reasonOfBytes h last kept b ≡ bare 1
+  unknown-kind b f = rw f
+
+  pub cut-body : (b : List ℕ) → frameOf b ≡ Cut → reasonOfBytes h last kept b ≡ bare 2
+  cut-body b f = rw f
+
   pub no-bytes : reasonOfBytes h last kept [] ≡ bare 2
   no-bytes = rw (sym (empty [] refl))
