@@ -33,14 +33,6 @@ stays b e = rw e
 pub next : {a b r : Asked} → a ≡ Holds → r ≡ b → r ≡ both a b
 next e p = rw e p
 
-pub no-more : {a : Asked} → a ≡ both a (asked [])
-unfolding asked
-no-more {a} = go a
-  where
-    go : (t : Asked) → t ≡ both t Holds
-    go Holds = refl
-    go (Fails x) = refl
-
 -- ---- some lines, and then others
 pub more : (xs ys : List Line) → asked (xs ++ ys) ≡ both (asked xs) (asked ys)
 unfolding asked

@@ -1,6 +1,6 @@
 -- What an answer to some lines says: that all hold, or the reason of the first that fails, whose number is the lowest that applies.
 use Prim.Native.Nat.{ℕ, _≤_}
-use mathlib.Core.Path.{_≡_, refl, sym, ap}
+use mathlib.Core.Path.{_≡_, refl, ap}
 use mathlib.Core.Bool.{Bool, true, false, _&&_}
 use mathlib.Core.List.{List, [], _∷_}
 use native.Mathlib.Omega.{arith}
@@ -10,7 +10,6 @@ use Rattle.records.specs.Lists.{all}
 use Rattle.reasons.specs.Reasons.{reason, zeros}
 use Rattle.reasons.specs.Asking.{Line, _unless_, _because_, asked, told, AllHold, none, more, FirstFailing, here, later, Failing, this, that, numbers, ascendFrom}
 use Rattle.reasons.specs.declared.Reason.{Reason}
-use Rattle.reasons.specs.declared.Asked.{Asked}
 use Rattle.reasons.specs.declared.Asked.the-variants.{Holds, Fails}
 
 pub all-hold : {ls : List Line} → AllHold ls → asked ls ≡ Holds
@@ -36,24 +35,6 @@ verdict (n unless b because d ∷ ls) = go b refl (verdict ls)
     go false e v = refusal (reason n d) (here e refl)
     go true e (grant a) = grant (more e a)
     go true e (refusal r f) = refusal r (later e f)
-
--- and the answer tells which
-module _ (ls : List Line) where
-  pub holds-all : asked ls ≡ Holds → AllHold ls
-  holds-all e = go (verdict ls)
-    where
-      go : Verdict ls → AllHold ls
-      go (grant a) = a
-      go (refusal r f) = absurd (let z : _≡_ {A = ℕ} 0 1 = cc (first-fails f) in omega arith)
-
-  pub fails-first : (r : Reason) → asked ls ≡ Fails r → FirstFailing r ls
-  fails-first r e = go (verdict ls)
-    where
-      go : Verdict ls → FirstFailing r ls
-      go (grant a) = absurd (let z : _≡_ {A = ℕ} 0 1 = cc (all-hold a) in omega arith)
-      go (refusal s f) =
-          let z : s ≡ r = cc (first-fails f) in
-          rw (sym z) f
 
 -- ---- 01: "The lowest n that applies is given"
 pub split : (a b : Bool) → (a && b) ≡ true → (a ≡ true) × (b ≡ true)

@@ -25,6 +25,7 @@ afterLines TakeBack last kept = changeLeft kept ∷ []
 abbrev pub deskLines : House → ℕ → ℕ → Request → List Line
 deskLines h last kept q = linesOf h q ++ afterLines (grantOf q) last kept
 
+-- the reason of the first that fails, and all zeros where all hold
 unfoldable pub reasonOf : House → ℕ → ℕ → Request → Reason
 reasonOf h last kept q = told (asked (deskLines h last kept q))
 
