@@ -4,55 +4,73 @@ use mathlib.Core.Path.{_≡_, refl, sym, ap, _∙_}
 use mathlib.Core.Bool.{Bool, true, false, not, cond, _&&_, _||_}
 use mathlib.Core.Logic.{_⊎_, inl, inr}
 use native.Mathlib.Omega.{arith}
-use lib.Dec.{eqb, leb}
+use lib.Dec.{eqb}
 use lib.Bits.{bitAnd}
-use borrow.Author.Tests.{eqb-true, eqb-false, eq-eqb, ne-eqb, leb-true, le-leb, not-true}
+use borrow.Author.Tests.{eqb-true, eqb-false, eq-eqb, ne-eqb, ltb-false, le-ltb, not-true, not-false}
 use Rattle.label.specs.declared.Label.the-variants.{At}
-use Rattle.label.specs.Labels.{contains, dominates}
+use Rattle.label.specs.declared.Parts.{Parts}
+use Rattle.label.specs.Labels.{contains, dominates, differs}
+use Rattle.label.proofs.Dominance.{level-differs, categories-differ}
 use Rattle.records.specs.Places.{has, with, only}
 use Rattle.records.specs.House.{house}
 use Rattle.records.specs.declared.User.{User}
 use Rattle.records.specs.declared.Session.{Session}
 use Rattle.records.specs.declared.Draft.{Draft}
 use Rattle.records.proofs.Places.{has-and, has-none, has-with, has-only, contains-has, has-contains, some-place}
-use Rattle.conditions.specs.Conditions.{isStaff, isAt, shares, sees, seen, levelWithin, categoriesWithin}
+use Rattle.conditions.specs.Conditions.{isStaff, isAt, shares, sees, seen}
 use Rattle.conditions.specs.Labels.{Exactly, Covered, Alike, Shared}
 
 clash : {A : Type 0} {b : Bool} → b ≡ true → b ≡ false → A
 clash p q = absurd (let z : _≡_ {A = ℕ} 0 1 = cc in omega arith)
+
+-- numbers do not differ exactly when they are equal
+equal : (a b : ℕ) → Exactly (not (not (eqb a b))) (a ≡ b)
+equal a b = record { says = λ t. eqb-true a b (not-false (eqb a b) (not-true (not (eqb a b)) t)); shown = λ e. ap (λ (t : Bool). not (not t)) (eq-eqb a b e) }
 
 -- both tests hold exactly when each does
 both : (a b : Bool) → Exactly (a && b) ((a ≡ true) × (b ≡ true))
 both true b = record { says = λ e. (refl, e); shown = λ e. e .1 }
 both false b = record { says = λ e. clash e refl; shown = λ e. e .0 }
 
--- ---- 9
-module _ (level c level′ c′ : ℕ) where
-  pub covered : Exactly (levelWithin level′ level && categoriesWithin c′ c) (Covered level c level′ c′)
+-- ---- 9 and 16, of labels at any two places: the place never counts
+module _ (place level c place′ level′ c′ : ℕ) where
+  abbrev lacking : Parts
+  lacking = dominates (At place level c) (At place′ level′ c′)
+
+  abbrev differing : Parts
+  differing = differs (At place level c) (At place′ level′ c′)
+
+  pub level-covered : Exactly (not (lacking .level)) (level′ ≤ level)
+  level-covered = record { says = λ t. ltb-false level level′ (not-true (lacking .level) t); shown = λ le. ap not (le-ltb level level′ le) }
+
+  pub categories-covered : Exactly (not (lacking .categories)) ((q : ℕ) → has c′ q ≡ true → has c q ≡ true)
+  categories-covered = record {
+    says = λ t. contains-has c c′ (not-false (contains c c′) (not-true (lacking .categories) t));
+    shown = λ f. ap (λ (b : Bool). not (not b)) (has-contains c c′ f);
+  }
+
+  pub level-alike : Exactly (not (differing .level)) (level ≡ level′)
+  level-alike = rw (level-differs place level c place′ level′ c′) (equal level level′)
+
+  pub categories-alike : Exactly (not (differing .categories)) (c ≡ c′)
+  categories-alike = rw (categories-differ place level c place′ level′ c′) (equal c c′)
+
+  -- both parts together
+  pub covered : Exactly (not (lacking .level) && not (lacking .categories)) (Covered level c level′ c′)
   covered = record {
     says = λ t.
-        let z = tests .says t in
-        record { no-higher = leb-true level′ level (z .0); contained = contains-has c c′ (z .1) };
-    shown = λ f. tests .shown (le-leb level′ level (f .no-higher), has-contains c c′ (f .contained));
+        let z = both (not (lacking .level)) (not (lacking .categories)) .says t in
+        record { no-higher = level-covered .says (z .0); contained = categories-covered .says (z .1) };
+    shown = λ f. both (not (lacking .level)) (not (lacking .categories)) .shown (level-covered .shown (f .no-higher), categories-covered .shown (f .contained));
   }
-    where
-      tests : Exactly (levelWithin level′ level && categoriesWithin c′ c) ((levelWithin level′ level ≡ true) × (categoriesWithin c′ c ≡ true))
-      tests = both (levelWithin level′ level) (categoriesWithin c′ c)
 
-  -- as dominance has it of two labels at one place, whichever
-  pub as-dominance : (place : ℕ) → dominates (At place level c) (At place level′ c′) ≡ (levelWithin level′ level && categoriesWithin c′ c)
-  as-dominance place = rw (eq-eqb place place refl)
-
-  pub alike : Exactly (eqb level level′ && eqb c c′) (Alike level c level′ c′)
+  pub alike : Exactly (not (differing .level) && not (differing .categories)) (Alike level c level′ c′)
   alike = record {
     says = λ t.
-        let z = tests .says t in
-        record { level-alike = eqb-true level level′ (z .0); categories-alike = eqb-true c c′ (z .1) };
-    shown = λ f. tests .shown (eq-eqb level level′ (f .level-alike), eq-eqb c c′ (f .categories-alike));
+        let z = both (not (differing .level)) (not (differing .categories)) .says t in
+        record { level-alike = level-alike .says (z .0); categories-alike = categories-alike .says (z .1) };
+    shown = λ f. both (not (differing .level)) (not (differing .categories)) .shown (level-alike .shown (f .level-alike), categories-alike .shown (f .categories-alike));
   }
-    where
-      tests : Exactly (eqb level level′ && eqb c c′) ((eqb level level′ ≡ true) × (eqb c c′ ≡ true))
-      tests = both (eqb level level′) (eqb c c′)
 
 -- ---- 8
 pub shared : (a b : ℕ) → Exactly (shares a b) (Shared a b)

@@ -2,9 +2,12 @@
 use Prim.Native.Nat.{ℕ}
 use mathlib.Core.Bool.{Bool, not, cond, _&&_, _||_}
 use lib.Bits.{bitAnd}
-use lib.Dec.{eqb, leb, ltb}
+use lib.Dec.{eqb, ltb}
 use lib.ListN.{length}
-use Rattle.label.specs.Labels.{contains}
+use Rattle.label.specs.Labels.{dominates, differs}
+use Rattle.label.specs.declared.Label.{Label}
+use Rattle.label.specs.declared.Label.the-variants.{At}
+use Rattle.label.specs.declared.Parts.{Parts}
 use Rattle.records.specs.Lists.{any}
 use Rattle.records.specs.Places.{has, with, only}
 use Rattle.records.specs.House.{House, house, staff, freelancer, user, script, session}
@@ -80,14 +83,33 @@ sees s owner d = cond (s .writes) (isSeated s d) (shares (d .places) (owner .roo
 abbrev pub seen : Session → User → ℕ
 seen s owner = cond (s .writes) (only (s .place)) (cond (isStaff owner) (with (owner .rooms) house) (owner .rooms))
 
--- ---- 9: "In all of 9 only level and categories count, never the place". What "differ" is no more than equality.
--- "opening above the owner's level", "Read not covered"
-abbrev pub levelWithin : ℕ → ℕ → Bool
-levelWithin under over = leb under over
+-- ---- 9 and 16: which parts of two labels fail or differ. 01: "only level and categories count, never the place"; 02, L1: "9 now means the level fails or
+-- differs; 16 means only the categories do"
+-- a user has no place, and stands as in the house
+abbrev pub userLabel : User → Label
+userLabel u = At house (u .level) (u .categories)
 
--- "or with more categories"
-abbrev pub categoriesWithin : ℕ → ℕ → Bool
-categoriesWithin under over = contains over under
+abbrev pub scriptLabel : Script → Label
+scriptLabel k = At (k .origin) (k .level) (k .categories)
+
+abbrev pub sessionLabel : Session → Label
+sessionLabel s = At (s .place) (s .level) (s .categories)
+
+-- "opening above the owner's level or with more categories"
+abbrev pub opening : User → ℕ → ℕ → Parts
+opening owner level c = dominates (userLabel owner) (At house level c)
+
+-- "Read not covered"
+abbrev pub reading : Session → Script → Parts
+reading s k = dominates (sessionLabel s) (scriptLabel k)
+
+-- "Update: session and script differ"
+abbrev pub updating : Session → Script → Parts
+updating s k = differs (sessionLabel s) (scriptLabel k)
+
+-- "Import: the scripts differ": script 2 and script 1
+abbrev pub importing : Script → Script → Parts
+importing k₂ k₁ = differs (scriptLabel k₂) (scriptLabel k₁)
 
 -- ---- 10: "with 256 live drafts"
 abbrev pub draftRoom : House → Bool

@@ -1,4 +1,4 @@
--- What the tests of labels and of shared places say, without tests: refusals 8 and 9 in plain words.
+-- What the tests of labels and of shared places say, without tests: refusals 8, 9 and 16 in plain words.
 use Prim.Native.Nat.{ℕ, _≤_}
 use mathlib.Core.Path.{_≡_}
 use mathlib.Core.Bool.{Bool, true}
@@ -9,12 +9,12 @@ pub record Exactly (test : Bool) (P : Type 0) : Type 0 where
   pub says : test ≡ true → P
   pub shown : P → test ≡ true
 
--- 9: level′ and c′ are covered: neither "above the .. level" nor "with more categories". Category q is bit q of the set.
+-- 9 and 16: level′ and c′ are covered: neither "above the .. level" nor "with more categories". Category q is bit q of the set.
 pub record Covered (level c level′ c′ : ℕ) : Type 0 where
   pub no-higher : level′ ≤ level
   pub contained : (q : ℕ) → has c′ q ≡ true → has c q ≡ true
 
--- 9: two labels that do not "differ"
+-- 9 and 16: two labels that do not "differ"
 pub record Alike (level c level′ c′ : ℕ) : Type 0 where
   pub level-alike : level ≡ level′
   pub categories-alike : c ≡ c′

@@ -1,7 +1,9 @@
 // The facts that 01's refusal table asks of the records. The judge asks them in their order, after those of a request's own fields.
 ghost use mathlib.Core.Path.{_≡_};
 ghost use Rattle.records.specs.House.{view, user, script, session, draftAt};
-ghost use Rattle.conditions.specs.Conditions.{noUsers, leads, isStaff, isFreelancer, mayKill, isIn, isAt, isSeated, ofOrigin, sees, seen, levelWithin, categoriesWithin, draftRoom};
+ghost use Rattle.conditions.specs.Conditions.{noUsers, leads, isStaff, isFreelancer, mayKill, isIn, isAt, isSeated, ofOrigin, sees, seen, sessionLabel, scriptLabel, opening, reading, updating, importing, draftRoom};
+use label::Label;
+use label::Parts;
 use records::Cells;
 
 // ---- of the users: i is a user's place
@@ -123,15 +125,63 @@ pub fn seen(records: &Cells, s: usize) -> u32
     owner.rooms
 }
 
-// ---- of labels: level and categories apart
-pub fn level_within(under: u8, over: u8) -> bool
-    ensures { λ r. ⌜ r ≡ levelWithin under over ⌝ }
+// ---- of labels: the parts that fail or differ. Whoever asks takes level and categories, never the place.
+pub fn opening(records: &Cells, i: usize, level: u8, categories: u16) -> Parts
+    ensures { λ r. ⌜ r ≡ opening (user (view (now (records .entry))) i) level categories ⌝ }
 {
-    under <= over
+    let owner = records::user_at(records, i);
+    let over = Label::At {
+        place: 0,
+        level: owner.level,
+        categories: owner.categories,
+    };
+    over.dominates(Label::At {
+        place: 0,
+        level,
+        categories,
+    })
 }
 
-pub fn categories_within(under: u16, over: u16) -> bool
-    ensures { λ r. ⌜ r ≡ categoriesWithin under over ⌝ }
+pub fn reading(records: &Cells, s: usize, k: usize) -> Parts
+    ensures { λ r. ⌜ r ≡ reading (session (view (now (records .entry))) s) (script (view (now (records .entry))) k) ⌝ }
 {
-    over & under == under
+    let over = session_label(records, s);
+    over.dominates(script_label(records, k))
+}
+
+pub fn updating(records: &Cells, s: usize, k: usize) -> Parts
+    ensures { λ r. ⌜ r ≡ updating (session (view (now (records .entry))) s) (script (view (now (records .entry))) k) ⌝ }
+{
+    let one = session_label(records, s);
+    one.differs(script_label(records, k))
+}
+
+// Of script 2 and script 1: k2 and k1 are their places.
+pub fn importing(records: &Cells, k2: usize, k1: usize) -> Parts
+    ensures { λ r. ⌜ r ≡ importing (script (view (now (records .entry))) k2) (script (view (now (records .entry))) k1) ⌝ }
+{
+    let one = script_label(records, k2);
+    one.differs(script_label(records, k1))
+}
+
+fn session_label(records: &Cells, s: usize) -> Label
+    ensures { λ r. ⌜ r ≡ sessionLabel (session (view (now (records .entry))) s) ⌝ }
+{
+    let session = records::session_at(records, s);
+    Label::At {
+        place: session.place,
+        level: session.level,
+        categories: session.categories,
+    }
+}
+
+fn script_label(records: &Cells, k: usize) -> Label
+    ensures { λ r. ⌜ r ≡ scriptLabel (script (view (now (records .entry))) k) ⌝ }
+{
+    let script = records::script_at(records, k);
+    Label::At {
+        place: script.origin,
+        level: script.level,
+        categories: script.categories,
+    }
 }

@@ -8,7 +8,7 @@ use lib.Dec.{T}
 use Rattle.label.specs.declared.Label.{Label}
 use Rattle.label.specs.declared.Unpacked.{Unpacked}
 use Rattle.label.specs.declared.Unpacked.the-variants.{Good, Bad}
-use Rattle.label.specs.Labels.{dominates, good, join, pack, unpack}
+use Rattle.label.specs.Labels.{nothing, dominates, good, join, pack, unpack}
 use Rattle.label.proofs.Numbers.{NoLabel, bad-no-label, join-good, pack-unpack, unpack-pack}
 use Rattle.editor.specs.Answers.{ofGood, dominanceAnswer, badJoin, joinAnswer}
 
@@ -28,7 +28,7 @@ module _ (bad : ℕ) (ask : Label → Label → ℕ) where
 -- dominance is 3 for a bad label alone
 pub three-for-bad : (a b : ℕ) → dominanceAnswer a b ≡ 3 → (unpack a ≡ Bad) ⊎ (unpack b ≡ Bad)
 three-for-bad a b =
-    got-for-bad 3 (λ x y. cond (dominates x y) 1 0) (unpack a) (unpack b) (λ x y p q. yes-or-no (dominates x y))
+    got-for-bad 3 (λ x y. cond (nothing (dominates x y)) 1 0) (unpack a) (unpack b) (λ x y p q. yes-or-no (nothing (dominates x y)))
   where
     yes-or-no : (t : Bool) → _≡_ {A = ℕ} (cond t 1 0) 3 → ⊥
     yes-or-no true e = omega arith

@@ -5,7 +5,7 @@ use Prim.Native.Nat.{ℕ}
 use Rattle.label.specs.declared.Label.{Label}
 use Rattle.label.specs.declared.Unpacked.{Unpacked}
 use Rattle.label.specs.declared.Unpacked.the-variants.{Good, Bad}
-use Rattle.label.specs.Labels.{dominates, join, pack, unpack}
+use Rattle.label.specs.Labels.{nothing, dominates, join, pack, unpack}
 use Rattle.request.specs.Kinds.{bodyLength}
 
 -- what is asked of two good labels, and `bad` where either is a bad label
@@ -16,7 +16,7 @@ ofGood bad ask Bad y = bad
 
 -- "dominance (1 yes, 0 no, 3 bad label)"
 abbrev pub dominanceAnswer : ℕ → ℕ → ℕ
-dominanceAnswer a b = ofGood 3 (λ x y. cond (dominates x y) 1 0) (unpack a) (unpack b)
+dominanceAnswer a b = ofGood 3 (λ x y. cond (nothing (dominates x y)) 1 0) (unpack a) (unpack b)
 
 -- "join (C3000000 for a bad label)"
 abbrev pub badJoin : ℕ

@@ -23,7 +23,8 @@ pub extern "C" fn desk_dominates(a: u32, b: u32) -> u32
     let Unpacked::Good(under) = Label::unpack(b) else {
         return BAD_LABEL;
     };
-    if over.dominates(under) { YES } else { NO }
+    let failing = over.dominates(under);
+    if failing.nothing() { YES } else { NO }
 }
 
 #[no_mangle]

@@ -1,3 +1,4 @@
 -- What the judge's answers say, and that each reason is true of the records.
 pub mod Order
 pub mod Sound
+pub mod Compared

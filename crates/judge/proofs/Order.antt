@@ -1,5 +1,5 @@
 -- What an answer of the judge says: a grant, that every fact holds; a refusal, that its reason is of the first fact that fails, and so has the lowest number that
--- applies.
+-- applies, by the order of refusals.
 use Prim.Native.Nat.{ℕ, _≤_}
 use mathlib.Core.Path.{_≡_, refl, sym, ap, _∙_}
 use mathlib.Core.Bool.{true}
@@ -7,13 +7,14 @@ use mathlib.Core.List.{List}
 use native.Mathlib.Omega.{arith}
 use lib.Dec.{eqb}
 use Rattle.records.specs.Lists.{any, all}
-use Rattle.records.specs.House.{House}
+use Rattle.records.specs.House.{House, emptyHouse}
 use Rattle.request.specs.declared.Request.{Request}
 use Rattle.request.specs.declared.Request.the-variants.{Enrol, Establish, JoinStaff, LeaveStaff, JoinOutsider, LeaveOutsider, Add, Remove, Import, Merge, Disband, OpenInRoom, OpenInHouse, OpenReadOnly, Read, Update, Create, Kill, TakeBack}
-use Rattle.reasons.specs.Asking.{Line, asked, AllHold, FirstFailing, Failing, numbers, ascendFrom, onceAfter}
-use Rattle.reasons.specs.Shared.{pairNumbers, pairLed, draftLed, opens, draftAsked}
+use Rattle.reasons.specs.Asking.{Line, asked, AllHold, FirstFailing, Failing, numbers, onceAfter}
+use Rattle.reasons.specs.Order.{rank, ascendFrom}
+use Rattle.reasons.specs.Shared.{pairNumbers, pairLed, draftLed, opens, covers, asScript, alike, draftAsked}
 use Rattle.reasons.specs.declared.Reason.{Reason}
-use Rattle.reasons.proofs.Order.{all-hold, first-fails, Verdict, grant, refusal, verdict, lowest, holds-at}
+use Rattle.reasons.proofs.Order.{all-hold, first-fails, Verdict, grant, refusal, verdict, lowest, once-ascends, holds-at}
 use Rattle.judge.specs.declared.Ruling.{Ruling}
 use Rattle.judge.specs.declared.Ruling.the-variants.{Refused}
 use Rattle.judge.specs.Kinds.{enrolWhere, establishLines, importLines, disbandLines, createLines, killLines, takeBackLines, linesOf, grantOf, grantIf, rulingOf}
@@ -47,9 +48,9 @@ module _ (g : Ruling) (is-grant : (r : Reason) → g ≡ Refused r → ⊥) (ls 
           let z : s ≡ r = cc (first-refused g f) in
           rw (sym z) f
 
--- the numbers of every kind's lines ascend
-pub lines-ascend : (h : House) (q : Request) → ascendFrom 3 (numbers (linesOf h q)) ≡ true
-unfolding enrolWhere establishLines pairNumbers pairLed draftLed importLines disbandLines opens draftAsked createLines killLines takeBackLines
+-- the numbers of every kind's lines ascend in the order of refusals
+pub lines-ascend : (h : House) (q : Request) → ascendFrom 0 (numbers (linesOf h q)) ≡ true
+unfolding enrolWhere establishLines pairNumbers pairLed draftLed importLines disbandLines opens covers asScript alike draftAsked createLines killLines takeBackLines
 lines-ascend h (Enrol u new sort level c admin) = refl
 lines-ascend h (Establish u room) = refl
 lines-ascend h (JoinStaff u w room) = refl
@@ -103,14 +104,14 @@ module _ (h : House) (q : Request) where
   unfolding rulingOf
   refused-exactly r = (refused-first (grantOf q) (grant-is-none q) (linesOf h q) r, first-refused (grantOf q))
 
-  -- and then no fact of a lower number fails
-  pub lowest-given : (r : Reason) (k : ℕ) → rulingOf h q ≡ Refused r → Failing k (linesOf h q) → r .number ≤ k
-  lowest-given r k e f = lowest 3 (lines-ascend h q) (refused-exactly r .0 e) f
+  -- and then no fact fails whose number stands before in the order of refusals
+  pub lowest-given : (r : Reason) (k : ℕ) → rulingOf h q ≡ Refused r → Failing k (linesOf h q) → rank (r .number) ≤ rank k
+  lowest-given r k e f = lowest 0 (lines-ascend h q) (refused-exactly r .0 e) f
 
 -- ---- the table of refusals
 -- a kind's row has the numbers of its lines, each once
 pub row-exact : (h : House) (q : Request) → onceAfter 0 (numbers (linesOf h q)) ≡ refusals q
-unfolding enrolWhere establishLines pairNumbers pairLed draftLed importLines disbandLines opens draftAsked createLines killLines takeBackLines
+unfolding enrolWhere establishLines pairNumbers pairLed draftLed importLines disbandLines opens covers asScript alike draftAsked createLines killLines takeBackLines
 row-exact h (Enrol u new sort level c admin) = refl
 row-exact h (Establish u room) = refl
 row-exact h (JoinStaff u w room) = refl
@@ -131,8 +132,12 @@ row-exact h (Create s k) = refl
 row-exact h (Kill u s) = refl
 row-exact h (TakeBack u) = refl
 
+-- and they ascend in the order of refusals
+pub row-ascends : (q : Request) → ascendFrom 0 (refusals q) ≡ true
+row-ascends q = rw (← row-exact emptyHouse q) (once-ascends 0 0 (numbers (linesOf emptyHouse q)) (lines-ascend emptyHouse q))
+
 rows-hold : (h : House) (q : Request) → all (λ n. any (eqb n) (refusals q)) (numbers (linesOf h q)) ≡ true
-unfolding enrolWhere establishLines pairNumbers pairLed draftLed importLines disbandLines opens draftAsked createLines killLines takeBackLines
+unfolding enrolWhere establishLines pairNumbers pairLed draftLed importLines disbandLines opens covers asScript alike draftAsked createLines killLines takeBackLines
 rows-hold h (Enrol u new sort level c admin) = refl
 rows-hold h (Establish u room) = refl
 rows-hold h (JoinStaff u w room) = refl

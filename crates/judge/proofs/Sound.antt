@@ -3,22 +3,24 @@ use Prim.Native.Nat.{ℕ}
 use mathlib.Core.Path.{_≡_, refl, sym, _∙_}
 use mathlib.Core.Bool.{Bool, true, false, not, _&&_, _||_}
 use mathlib.Core.List.{List, [], _∷_, _++_}
-use borrow.Author.Tests.{not-false, eqb-true}
+use borrow.Author.Tests.{not-true, not-false, eqb-true, ltb-true, ltb-false}
 use native.Mathlib.Omega.{arith}
 use lib.Dec.{eqb}
-use Rattle.records.specs.House.{House, house, staff, draftAt}
+use Rattle.label.proofs.Dominance.{level-differs, categories-differ}
+use Rattle.records.specs.House.{House, house, staff, user, script, session, draftAt}
 use Rattle.records.specs.Lookups.{findDraft, draft}
 use Rattle.records.specs.declared.Found.{Found}
 use Rattle.records.specs.declared.Found.the-variants.{At, Nothing}
 use Rattle.records.proofs.Lookups.{found-draft, found-is, found-below, no-draft}
 use Rattle.conditions.specs.Conditions.{noUsers, isUser, isScript, isSession, isDraft}
+use Rattle.conditions.proofs.Labels.{level-alike}
 use Rattle.fields.specs.Fields.{isFirst}
 use Rattle.request.specs.declared.Request.{Request}
 use Rattle.request.specs.declared.Request.the-variants.{Enrol, Establish, JoinStaff, LeaveStaff, JoinOutsider, LeaveOutsider, Add, Remove, Import, Merge, Disband, OpenInRoom, OpenInHouse, OpenReadOnly, Read, Update, Create, Kill, TakeBack}
 use Rattle.reasons.specs.Reasons.{noRecord, reason}
 use Rattle.reasons.specs.Asking.{Line, _unless_, _because_, FirstFailing, here, later}
 use Rattle.reasons.specs.Lines.{aLevel}
-use Rattle.reasons.specs.Shared.{pairNumbers, pairLed, draftLed, opens, draftAsked}
+use Rattle.reasons.specs.Shared.{pairNumbers, pairLed, draftLed, opens, covers, asScript, alike, draftAsked}
 use Rattle.reasons.specs.Told.{Live, Told, over63, over16, under1, over7, noSort, noYesNo, notPlain, noUser, noRoom, noScript, noSession, noDraft, userIs, roomIs, sessionIs, scriptIs, notFirst, noAdmin, leadsNot, endsNot, noStaff, staffIs, noFreelancer, readsOnly, inAlready, notIn, notAmong, isAmong, unseen, notSeated, otherOrigin, levelAbove, categoriesMore, levelUnder, categoriesLack, levelOther, categoriesOther, levelUnlike, categoriesUnlike, full}
 use Rattle.reasons.specs.declared.Reason.{Reason}
 use Rattle.judge.specs.declared.Ruling.the-variants.{Refused}
@@ -30,7 +32,7 @@ abbrev pub Sound : (Reason → Type 0) → List Line → Type 0
 Sound P [] = Unit {0}
 Sound P (n unless b because d ∷ ls) = (b ≡ false → P (reason n d)) × (b ≡ true → Sound P ls)
 
-of-first : (P : Reason → Type 0) {r : Reason} {ls : List Line} → Sound P ls → FirstFailing r ls → P r
+pub of-first : (P : Reason → Type 0) {r : Reason} {ls : List Line} → Sound P ls → FirstFailing r ls → P r
 of-first P s (here e q) = rw q (s .0 e)
 of-first P s (later e f) = of-first P (s .1 e) f
 
@@ -46,6 +48,10 @@ or-right false b e f = e
 and-left : (a b : Bool) → (a && b) ≡ true → a ≡ true
 and-left true b e = refl
 and-left false b e = e
+
+-- where something differs, it is not equal
+other : (a b : ℕ) {differ : Bool} → differ ≡ not (eqb a b) → not differ ≡ false → eqb a b ≡ false
+other a b {differ} p e = not-true (eqb a b) (sym p ∙ not-false differ e)
 
 -- a draft that must exist is one of the live ones
 live : (h : House) (k v : ℕ) → isDraft h k v ≡ true → Live h v (draft h k v)
@@ -89,7 +95,33 @@ module _ (h : House) where
 
   sound-opens : (u level c : ℕ) → isUser h u ≡ true → Sound (Told h) (opens h u level c)
   unfolding opens
-  sound-opens u level c a = (levelAbove u level a, λ _. (categoriesMore u c a, λ _. tt))
+  sound-opens u level c a =
+      ( λ e. levelAbove u level a (ltb-true (user h u .level) level (not-false _ e)),
+        λ t. (λ e. categoriesMore u level c a (ltb-false (user h u .level) level (not-true _ t)) (not-true _ (not-false _ e)), λ _. tt) )
+
+  sound-covers : (s k : ℕ) → isSession h s ≡ true → isScript h k ≡ true → Sound (Told h) (covers h s k)
+  unfolding covers
+  sound-covers s k b a =
+      ( λ e. levelUnder s k b a (ltb-true (session h s .level) (script h k .level) (not-false _ e)),
+        λ t. (λ e. categoriesLack s k b a (ltb-false (session h s .level) (script h k .level) (not-true _ t)) (not-true _ (not-false _ e)), λ _. tt) )
+
+  sound-as-script : (s k : ℕ) (own : List Line) → isSession h s ≡ true → isScript h k ≡ true → Sound (Told h) own → Sound (Told h) (asScript h s k ++ own)
+  unfolding asScript
+  sound-as-script s k own b a rest =
+      let x = session h s in
+      let y = script h k in
+      ( λ e. levelOther s k b a (other (x .level) (y .level) (level-differs (x .place) (x .level) (x .categories) (y .origin) (y .level) (y .categories)) e),
+        λ t. (λ e. categoriesOther s k b a (level-alike (x .place) (x .level) (x .categories) (y .origin) (y .level) (y .categories) .says t)
+            (other (x .categories) (y .categories) (categories-differ (x .place) (x .level) (x .categories) (y .origin) (y .level) (y .categories)) e), λ _. rest) )
+
+  sound-alike : (k₁ k₂ : ℕ) (own : List Line) → isScript h k₁ ≡ true → isScript h k₂ ≡ true → Sound (Told h) own → Sound (Told h) (alike h k₁ k₂ ++ own)
+  unfolding alike
+  sound-alike k₁ k₂ own s t rest =
+      let x = script h k₂ in
+      let y = script h k₁ in
+      ( λ e. levelUnlike k₁ k₂ s t (other (x .level) (y .level) (level-differs (x .origin) (x .level) (x .categories) (y .origin) (y .level) (y .categories)) e),
+        λ f. (λ e. categoriesUnlike k₁ k₂ s t (level-alike (x .origin) (x .level) (x .categories) (y .origin) (y .level) (y .categories) .says f)
+            (other (x .categories) (y .categories) (categories-differ (x .origin) (x .level) (x .categories) (y .origin) (y .level) (y .categories)) e), λ _. rest) )
 
   sound-asked : (s k v : ℕ) (own : List Line) → (isScript h k ≡ true → isSession h s ≡ true → Live h v (draft h k v) → Sound (Told h) own) → Sound (Told h) (draftAsked h s k v ++ own)
   unfolding draftAsked
@@ -105,14 +137,14 @@ module _ (h : House) where
   sound-lines (LeaveOutsider u w room) = sound-pair u w room _ (λ b. (noFreelancer w b, λ _. (notIn w room b, λ _. tt)))
   sound-lines (Add u k v room) = sound-led u k v room _ (λ _ l. (notAmong v (draft h k v) house l, λ _. (λ e. isAmong v (draft h k v) room l (not-false _ e), λ _. tt)))
   sound-lines (Remove u k v room) = sound-led u k v room _ (λ _ l. (notAmong v (draft h k v) room l, λ _. tt))
-  sound-lines (Import u k₁ v k₂ room) = (over63 u, λ _. (over63 k₁, λ _. (over63 k₂, λ _. (over16 room, λ _. (under1 room, λ _. (noUser u, λ a. (noRoom room, λ _. (noScript k₁, λ s. (noScript k₂, λ t. (noDraft k₁ v, λ _. (leadsNot u room a, λ _. (otherOrigin k₁ room s, λ _. (otherOrigin k₂ house t, λ _. (levelUnlike k₁ k₂ s t, λ _. (categoriesUnlike k₁ k₂ s t, λ _. (full, λ _. tt))))))))))))))))
+  sound-lines (Import u k₁ v k₂ room) = (over63 u, λ _. (over63 k₁, λ _. (over63 k₂, λ _. (over16 room, λ _. (under1 room, λ _. (noUser u, λ a. (noRoom room, λ _. (noScript k₁, λ s. (noScript k₂, λ t. (noDraft k₁ v, λ _. (leadsNot u room a, λ _. (otherOrigin k₁ room s, λ _. (otherOrigin k₂ house t, λ _. sound-alike k₁ k₂ _ s t (full, λ _. tt))))))))))))))
   sound-lines (Merge u k v room) = sound-led u k v room _ (λ t l. (notAmong v (draft h k v) room l, λ _. (otherOrigin k house t, λ _. tt)))
   sound-lines (Disband u room) = (over63 u, λ _. (over16 room, λ _. (under1 room, λ _. (noUser u, λ a. (noRoom room, λ _. (leadsNot u room a, λ _. tt))))))
   sound-lines (OpenInRoom u s room level c) = (over63 u, λ _. (over63 s, λ _. (over16 room, λ _. (under1 room, λ _. (over7 level, λ _. (noUser u, λ a. (noRoom room, λ _. (λ e. sessionIs s (not-false _ e), λ _. (notIn u room a, λ _. sound-opens u level c a)))))))))
   sound-lines (OpenInHouse u s level c) = (over63 u, λ _. (over63 s, λ _. (over7 level, λ _. (noUser u, λ a. (λ e. sessionIs s (not-false _ e), λ _. (noStaff u a, λ _. sound-opens u level c a))))))
   sound-lines (OpenReadOnly u s level c) = (over63 u, λ _. (over63 s, λ _. (over7 level, λ _. (noUser u, λ a. (λ e. sessionIs s (not-false _ e), λ _. sound-opens u level c a)))))
-  sound-lines (Read s k v) = sound-asked s k v _ (λ a b l. (unseen s v (draft h k v) b l, λ _. (levelUnder s k b a, λ _. (categoriesLack s k b a, λ _. tt))))
-  sound-lines (Update s k v) = sound-asked s k v _ (λ a b l. (readsOnly s b, λ _. (notSeated s v (draft h k v) b l, λ _. (levelOther s k b a, λ _. (categoriesOther s k b a, λ _. (full, λ _. tt))))))
+  sound-lines (Read s k v) = sound-asked s k v _ (λ a b l. (unseen s v (draft h k v) b l, λ _. sound-covers s k b a))
+  sound-lines (Update s k v) = sound-asked s k v _ (λ a b l. (readsOnly s b, λ _. (notSeated s v (draft h k v) b l, λ _. sound-as-script s k _ b a (full, λ _. tt))))
   sound-lines (Create s k) = (over63 k, λ _. (over63 s, λ _. (noSession s, λ b. (λ e. scriptIs k (not-false _ e), λ _. (readsOnly s b, λ _. (full, λ _. tt))))))
   sound-lines (Kill u s) = (over63 u, λ _. (over63 s, λ _. (noUser u, λ _. (noSession s, λ b. (endsNot u s b, λ _. tt)))))
   sound-lines (TakeBack u) = (over63 u, λ _. (noUser u, λ a. (noAdmin u a, λ _. tt)))

@@ -1,4 +1,4 @@
--- The lines of each kind of request: 01's refusal table read off for that kind, in ascending numbers, and under one number in the order of the table's
+-- The lines of each kind of request: the table of refusals read off for that kind, in the order of refusals, and under one number in the order of the table's
 -- words, then of the body. What kinds ask in common is one list.
 use Prim.Native.Nat.{ℕ}
 use mathlib.Core.Bool.{Bool}
@@ -9,8 +9,8 @@ use Rattle.request.specs.declared.Request.{Request}
 use Rattle.request.specs.declared.Request.the-variants.{Enrol, Establish, JoinStaff, LeaveStaff, JoinOutsider, LeaveOutsider, Add, Remove, Import, Merge, Disband, OpenInRoom, OpenInHouse, OpenReadOnly, Read, Update, Create, Kill, TakeBack}
 use Rattle.conditions.specs.Conditions.{noUsers}
 use Rattle.reasons.specs.Asking.{Line, asked}
-use Rattle.reasons.specs.Lines.{anId, roomHigh, roomLow, aLevel, aSort, aYesNo, plain, userExists, enrollerExists, roomExists, scriptExists, sessionExists, draftExists, userNew, roomNew, sessionNew, scriptNew, firstHas, enrolls, administers, leadsRoom, endsSession, ofStaff, notOfStaff, aFreelancer, writesIn, notYetIn, inRoom, draftAmong, draftNotAmong, seesDraft, seatedAt, originIs, levelCovers, categoriesCover, levelAsScript, categoriesAsScript, levelAlike, categoriesAlike, roomForDraft}
-use Rattle.reasons.specs.Shared.{pairNumbers, pairLed, draftLed, opens, draftAsked}
+use Rattle.reasons.specs.Lines.{anId, roomHigh, roomLow, aLevel, aSort, aYesNo, plain, userExists, enrollerExists, roomExists, scriptExists, sessionExists, draftExists, userNew, roomNew, sessionNew, scriptNew, firstHas, enrolls, administers, leadsRoom, endsSession, ofStaff, notOfStaff, aFreelancer, writesIn, notYetIn, inRoom, draftAmong, draftNotAmong, seesDraft, seatedAt, originIs, roomForDraft}
+use Rattle.reasons.specs.Shared.{pairNumbers, pairLed, draftLed, opens, covers, asScript, alike, draftAsked}
 use Rattle.reasons.specs.declared.Asked.{Asked}
 use Rattle.reasons.specs.declared.Asked.the-variants.{Holds, Fails}
 use Rattle.judge.specs.declared.Ruling.{Ruling}
@@ -75,10 +75,7 @@ importLines h u k₁ v k₂ room =
     ∷ leadsRoom h u room
     ∷ originIs h k₁ room
     ∷ originIs h k₂ house
-    ∷ levelAlike h k₁ k₂
-    ∷ categoriesAlike h k₁ k₂
-    ∷ roomForDraft h
-    ∷ []
+    ∷ (alike h k₁ k₂ ++ (roomForDraft h ∷ []))
 
 abbrev pub mergeLines : House → ℕ → ℕ → ℕ → ℕ → List Line
 mergeLines h u k v room = draftLed h u k v room ++ (draftAmong v (draft h k v) room ∷ originIs h k house ∷ [])
@@ -106,12 +103,12 @@ abbrev pub openReadOnlyLines : House → ℕ → ℕ → ℕ → ℕ → List Li
 openReadOnlyLines h u s level c = anId u ∷ anId s ∷ aLevel level ∷ userExists h u ∷ sessionNew h s ∷ opens h u level c
 
 abbrev pub readLines : House → ℕ → ℕ → ℕ → List Line
-readLines h s k v = draftAsked h s k v ++ (seesDraft h s v (draft h k v) ∷ levelCovers h s k ∷ categoriesCover h s k ∷ [])
+readLines h s k v = draftAsked h s k v ++ (seesDraft h s v (draft h k v) ∷ covers h s k)
 
 abbrev pub updateLines : House → ℕ → ℕ → ℕ → List Line
 updateLines h s k v =
     draftAsked h s k v
-    ++ (writesIn h s ∷ seatedAt h s v (draft h k v) ∷ levelAsScript h s k ∷ categoriesAsScript h s k ∷ roomForDraft h ∷ [])
+    ++ (writesIn h s ∷ seatedAt h s v (draft h k v) ∷ (asScript h s k ++ (roomForDraft h ∷ [])))
 
 unfoldable pub createLines : House → ℕ → ℕ → List Line
 createLines h s k = anId k ∷ anId s ∷ sessionExists h s ∷ scriptNew h k ∷ writesIn h s ∷ roomForDraft h ∷ []

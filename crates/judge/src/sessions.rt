@@ -77,8 +77,7 @@ pub(crate) fn read(records: &Cells, session: u8, script: u8, number: u32) -> Ask
     let first = draft.asked;
     first
         .sees(records, session, number, draft.at)
-        .level_covers(records, session, script)
-        .categories_cover(records, session, script)
+        .covers(records, session, script)
 }
 
 // 14 Update
@@ -90,8 +89,7 @@ pub(crate) fn update(records: &Cells, session: u8, script: u8, number: u32) -> A
     first
         .writes(records, session)
         .seated(records, session, number, draft.at)
-        .level_as_script(records, session, script)
-        .categories_as_script(records, session, script)
+        .as_script(records, session, script)
         .draft_room(records)
 }
 

@@ -53,8 +53,7 @@ pub(crate) fn import(
         .leads(records, u, room)
         .of_origin(records, script1, room)
         .of_origin(records, script2, 0)
-        .level_alike(records, script1, script2)
-        .categories_alike(records, script1, script2)
+        .alike(records, script1, script2)
         .draft_room(records)
 }
 

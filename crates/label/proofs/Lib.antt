@@ -1,4 +1,5 @@
--- The crate's theorems: sets of categories, the order of labels, and labels as numbers.
+-- The crate's theorems: sets of categories, the order of labels, what fails and what differs, and labels as numbers.
 pub mod Sets
 pub mod Order
+pub mod Dominance
 pub mod Numbers

@@ -1,14 +1,14 @@
--- The order of labels: dominance is reflexive, antisymmetric and transitive, and a join is a least upper bound. Nothing is asked of the labels.
+-- The order of labels, where one dominates another when nothing fails: it is reflexive, antisymmetric and transitive, and a join is a least upper bound.
+-- Nothing is asked of the labels.
 use mathlib.Core.Path.{_≡_, refl, sym, _∙_}
-use mathlib.Core.Bool.{Bool, true, false, cond, _&&_}
+use mathlib.Core.Bool.{Bool, true, false, not, cond, _||_}
 use Prim.Native.Nat.{ℕ, _≤_, max}
 use native.Mathlib.Omega.{arith}
 use native.Mathlib.Nat.{le-refl}
-use lib.Dec.{eqb, leb, eqb→eq, leb→le}
-use lib.Bits.{bitOr}
-use lib.Ieee.Fits.{and-l, and-r}
-use borrow.Author.Tests.{eq-eqb, eqb-true, eqb-false, le-leb}
-use Rattle.label.specs.Labels.{contains, dominates, Dominates, join}
+use lib.Dec.{T, eqb, ltb}
+use lib.Bits.{bitAnd, bitOr}
+use borrow.Author.Tests.{eq-eqb, eqb-true, eqb-false, ltb-false, le-ltb, not-false}
+use Rattle.label.specs.Labels.{contains, Dominates, join}
 use Rattle.label.specs.declared.Label.{Label}
 use Rattle.label.specs.declared.Label.the-variants.{High, Low, At}
 use Rattle.label.proofs.Sets.{Contains, contains-refl, contains-antisym, contains-trans, union-left, union-right, union-least}
@@ -19,18 +19,25 @@ pub record Covers (p l c q m d : ℕ) : Type 0 where
   pub level : m ≤ l
   pub categories : Contains c d
 
+-- nothing of three
+pub none-of : (a b c : Bool) → T (not (a || b || c)) → (a ≡ false) × (b ≡ false) × (c ≡ false)
+none-of true b c t = absurd t
+none-of false true c t = absurd t
+none-of false false true t = absurd t
+none-of false false false t = (refl, refl, refl)
+
 module _ (p l c q m d : ℕ) where
   pub dominates→covers : Dominates (At p l c) (At q m d) → Covers p l c q m d
   dominates→covers t =
-      let both = and-l (eqb p q && leb m l) (contains c d) t in
+      let held = none-of (ltb l m) (not (contains c d)) (not (eqb p q)) t in
       record {
-        place = eqb→eq p q (and-l (eqb p q) (leb m l) both);
-        level = leb→le m l (and-r (eqb p q) (leb m l) both);
-        categories = eqb→eq _ d (and-r (eqb p q && leb m l) (contains c d) t);
+        place = eqb-true p q (not-false (eqb p q) (held .2));
+        level = ltb-false l m (held .0);
+        categories = eqb-true (bitAnd c d) d (not-false (contains c d) (held .1));
       }
 
   pub covers→dominates : Covers p l c q m d → Dominates (At p l c) (At q m d)
-  covers→dominates h = simp (eq-eqb _ _ (h .place), le-leb _ _ (h .level), eq-eqb _ _ (h .categories)) tt
+  covers→dominates h = rw (le-ltb l m (h .level), eq-eqb (bitAnd c d) d (h .categories), eq-eqb p q (h .place)) tt
 
 -- every label dominates itself
 pub reflexive : (a : Label) → Dominates a a

@@ -1,10 +1,11 @@
--- Labels: dominance, the join, good labels, and labels as 32-bit numbers. Each definition stands under the sentence that it says.
-use mathlib.Core.Bool.{Bool, true, false, cond, _&&_, _||_}
+-- Labels: dominance by its parts, the join, good labels, and labels as 32-bit numbers. Each definition stands under the sentence that it says.
+use mathlib.Core.Bool.{Bool, true, false, not, cond, _&&_, _||_}
 use Prim.Native.Nat.{ℕ, _+_, _*_, _/_, _%_, _^_, max}
 use lib.Dec.{T, eqb, leb, ltb}
 use lib.Bits.{bitAnd, bitOr}
 use Rattle.label.specs.declared.Label.{Label}
 use Rattle.label.specs.declared.Label.the-variants.{High, Low, At}
+use Rattle.label.specs.declared.Parts.{Parts}
 use Rattle.label.specs.declared.Unpacked.{Unpacked}
 use Rattle.label.specs.declared.Unpacked.the-variants.{Good, Bad}
 
@@ -24,21 +25,35 @@ isLow (At p l c) = false
 abbrev pub contains : ℕ → ℕ → Bool
 contains c d = eqb (bitAnd c d) d
 
--- "the places are equal, A's level is at least B's and A's categories contain B's"
-abbrev pub covers : Label → Label → Bool
-covers High b = false
-covers Low b = false
-covers (At p l c) High = false
-covers (At p l c) Low = false
-covers (At p l c) (At q m d) = eqb p q && leb m l && contains c d
+-- 02, L1: "Dominance between labels should answer which parts fail, level, categories, place, rather than yes or no". Of each part, whether it fails.
+abbrev pub parts : Bool → Bool → Bool → Parts
+parts level categories place = record { level = level; categories = categories; place = place }
 
--- "A dominates B when A is SysHigh, or B is SysLow, or the places are equal, A's level is at least B's and A's categories contain B's."
-abbrev pub dominates : Label → Label → Bool
-dominates a b = isHigh a || isLow b || covers a b
+abbrev pub either : Parts → Parts → Parts
+either f g = parts (f .level || g .level) (f .categories || g .categories) (f .place || g .place)
 
--- as a statement, for the laws of the order
+abbrev pub nothing : Parts → Bool
+nothing f = not (f .level || f .categories || f .place)
+
+-- "the places are equal, A's level is at least B's and A's categories contain B's": of two labels at places each part fails for itself
+abbrev pub eachPart : Label → Label → Parts
+eachPart High b = parts false false false
+eachPart Low b = parts false false false
+eachPart (At p l c) High = parts false false false
+eachPart (At p l c) Low = parts false false false
+eachPart (At p l c) (At q m d) = parts (ltb l m) (not (contains c d)) (not (eqb p q))
+
+-- "A dominates B when A is SysHigh, or B is SysLow, or .." L1: "Where it fails and A is SysLow or B SysHigh, all three fail."
+abbrev pub dominates : Label → Label → Parts
+dominates a b = cond (isHigh a || isLow b) (parts false false false) (cond (isLow a || isHigh b) (parts true true true) (eachPart a b))
+
+-- "A dominates B": nothing fails
 abbrev pub Dominates : Label → Label → Type 0
-Dominates a b = T (dominates a b)
+Dominates a b = T (nothing (dominates a b))
+
+-- A and B differ in the parts that fail one way or the other
+abbrev pub differs : Label → Label → Parts
+differs a b = either (dominates a b) (dominates b a)
 
 -- "The join: same place gives the larger level and the union; different places give SysHigh; SysHigh absorbs; SysLow gives the other."
 abbrev pub join : Label → Label → Label

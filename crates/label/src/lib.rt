@@ -1,6 +1,6 @@
-// Labels: which dominates which, the join of two, and a label as a 32-bit number.
+// Labels: what fails where one is to dominate another, the join of two, and a label as a 32-bit number.
 ghost use mathlib.Core.Path.{_≡_};
-ghost use Rattle.label.specs.Labels.{dominates, join, pack, unpack};
+ghost use Rattle.label.specs.Labels.{nothing, dominates, differs, join, pack, unpack};
 
 // High is SysHigh and Low is SysLow. The fields can hold more than a good label does: dominance, join and packing take whatever they hold.
 pub enum Label {
@@ -13,6 +13,13 @@ pub enum Label {
     },
 }
 
+// Parts of a label: those that fail where one label is to dominate another, or those in which two labels differ.
+pub struct Parts {
+    pub level: bool,
+    pub categories: bool,
+    pub place: bool,
+}
+
 // The answer of unpacking: not every number is a label's.
 pub enum Unpacked {
     Good(Label),
@@ -23,35 +30,73 @@ const HIGH_NUMBER: u32 = 0xFF00_0000;
 
 const LOW_NUMBER: u32 = 0xFE00_0000;
 
+impl Parts {
+    pub const NONE: Parts = Parts {
+        level: false,
+        categories: false,
+        place: false,
+    };
+
+    pub const ALL: Parts = Parts {
+        level: true,
+        categories: true,
+        place: true,
+    };
+
+    // A label dominates another exactly when nothing fails.
+    pub fn nothing(self) -> bool
+        ensures { λ r. ⌜ r ≡ nothing self ⌝ }
+    {
+        !(self.level | self.categories | self.place)
+    }
+}
+
 impl Label {
     pub const SYS_HIGH: Label = Label::High;
 
     pub const SYS_LOW: Label = Label::Low;
 
-    // Every pair of variants has its own arm: in an arm for several, the proof would not know which one it has.
-    pub fn dominates(self, other: Label) -> bool
+    // The parts that fail. Every pair of variants has its own arm: in an arm for several, the proof would not know which one it has.
+    pub fn dominates(self, other: Label) -> Parts
         ensures { λ r. ⌜ r ≡ dominates self other ⌝ }
     {
         match self {
-            Label::High => true,
+            Label::High => Parts::NONE,
             Label::Low => match other {
-                Label::High => false, // SysLow dominates itself alone
-                Label::Low => true,
-                Label::At { .. } => false,
+                Label::High => Parts::ALL, // SysLow dominates itself alone
+                Label::Low => Parts::NONE,
+                Label::At { .. } => Parts::ALL,
             },
             Label::At {
                 place,
                 level,
                 categories,
             } => match other {
-                Label::High => false,
-                Label::Low => true,
+                Label::High => Parts::ALL,
+                Label::Low => Parts::NONE,
                 Label::At {
                     place: p,
                     level: l,
                     categories: c,
-                } => (place == p) & (l <= level) & (categories & c == c),
+                } => Parts {
+                    level: level < l,
+                    categories: categories & c != c,
+                    place: place != p,
+                },
             },
+        }
+    }
+
+    // The parts in which the two differ: those that fail one way or the other.
+    pub fn differs(self, other: Label) -> Parts
+        ensures { λ r. ⌜ r ≡ differs self other ⌝ }
+    {
+        let over = self.dominates(other);
+        let under = other.dominates(self);
+        Parts {
+            level: over.level | under.level,
+            categories: over.categories | under.categories,
+            place: over.place | under.place,
         }
     }
 

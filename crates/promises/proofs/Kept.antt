@@ -17,9 +17,9 @@ use Rattle.effects.specs.Effects.{effect}
 use Rattle.judge.specs.declared.Ruling.{Ruling}
 use Rattle.judge.specs.declared.Ruling.the-variants.{Refused, Pass, Keep, KeepNumbered}
 use Rattle.fields.specs.Fields.{isId, toSixteen, fromOne, isSort, isPlain, isFirst}
-use Rattle.conditions.specs.Conditions.{noUsers, isUser, isStaff, levelWithin, categoriesWithin}
+use Rattle.conditions.specs.Conditions.{noUsers, isUser, isStaff, opening}
 use Rattle.conditions.specs.Labels.{Covered}
-use Rattle.reasons.specs.Shared.{pairNumbers, pairLed, draftLed, opens, draftAsked}
+use Rattle.reasons.specs.Shared.{pairNumbers, pairLed, draftLed, opens, covers, asScript, alike, draftAsked}
 use Rattle.judge.specs.Kinds.{enrolWhere, establishLines, importLines, disbandLines, createLines, killLines, linesOf, grantOf, rulingOf}
 use Rattle.promises.specs.Rules.{rules}
 use Rattle.promises.specs.Facts.{RoomNumber, LabelFits, Administered, Rules}
@@ -79,8 +79,8 @@ ruler-of h u admin = go (noUsers h)
     go false p first q = inr (record { who = u; is-here = p; is-admin = q })
 
 -- a session that is opened has no more than its owner
-opens-of : (u : User) (level c : ℕ) → levelWithin level (u .level) ≡ true → categoriesWithin c (u .categories) ≡ true → Covered (u .level) (u .categories) level c
-opens-of u level c l k = covered (u .level) (u .categories) level c .says ((itself and itself) .shown (l, k))
+opens-of : (u : User) (level c : ℕ) → not (opening u level c .level) ≡ true → not (opening u level c .categories) ≡ true → Covered (u .level) (u .categories) level c
+opens-of u level c l k = covered house (u .level) (u .categories) house level c .says ((itself and itself) .shown (l, k))
 
 -- what a grant of the request q promises; n is the number of a change that takes none
 abbrev Next : House → ℕ → ℕ → Request → Ruling → Type 0
@@ -93,7 +93,7 @@ Next h last n q Ruling.TakeBack = Unit {0}
 module _ (h : House) (last : ℕ) (R : Rules h last) where
   -- where f k says that condition k of the kind holds
   next : (n : ℕ) (q : Request) → fits q ≡ true → Hold (linesOf h q) → Next h last n q (grantOf q)
-  unfolding enrolWhere establishLines pairNumbers pairLed draftLed importLines disbandLines opens draftAsked createLines killLines
+  unfolding enrolWhere establishLines pairNumbers pairLed draftLed importLines disbandLines opens covers asScript alike draftAsked createLines killLines
   next n (Enrol u new sort level c admin) w f =
       let s = sort-of sort (f 3) in
       let l = label-of level c (bytes (u ∷ new ∷ sort ∷ level ∷ admin ∷ [])) (f 2) w in

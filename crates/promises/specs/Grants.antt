@@ -11,6 +11,7 @@ use Rattle.records.specs.Lists.{any}
 use Rattle.records.specs.House.{House}
 use Rattle.effects.specs.declared.Change.{Change}
 use Rattle.reasons.specs.Asking.{AllHold}
+use Rattle.reasons.specs.Order.{isRefusal}
 use Rattle.judge.specs.Kinds.{linesOf, grantOf}
 use Rattle.judge.specs.Table.{refusals}
 use Rattle.judge.specs.declared.Ruling.{Ruling}
@@ -53,9 +54,10 @@ pub data Listed (q : Request) (n : ℕ) : Type 0 where
   no-number : n ≡ 11 → grantOf q ≡ KeepNumbered → Listed q n
   no-change : n ≡ 12 → grantOf q ≡ TakeBack → Listed q n
 
--- what every refusal of q with n is, and leaves
+-- what every refusal of q with n is, one of the order of refusals, and leaves
 pub record Refusal (d : Desk House Change) (q : Request) (o : Outcome House Change) (n : ℕ) : Type 0 where
   pub listed : Listed q n
+  pub in-order : isRefusal n ≡ true
   pub byte : answerBytes (Refused n) ≡ (0xC0 + n) ∷ []
   pub unchanged : o .desk ≡ d
 

@@ -1,9 +1,9 @@
--- Lines asked in order. 01: "The lowest n that applies is given; a fact that can't be asked because an earlier one failed doesn't count."
+-- Lines asked in their order. 01: "a fact that can't be asked because an earlier one failed doesn't count."
 use Prim.Native.Nat.{ℕ}
 use mathlib.Core.Path.{_≡_}
-use mathlib.Core.Bool.{Bool, true, false, cond, _&&_}
+use mathlib.Core.Bool.{Bool, true, false, cond}
 use mathlib.Core.List.{List, [], _∷_}
-use lib.Dec.{eqb, leb}
+use lib.Dec.{eqb}
 use Rattle.reasons.specs.Reasons.{Decided, reason, zeros}
 use Rattle.reasons.specs.declared.Reason.{Reason}
 use Rattle.reasons.specs.declared.Asked.{Asked}
@@ -53,11 +53,6 @@ pub data Failing (n : ℕ) : List Line → Type 0 where
 abbrev pub numbers : List Line → List ℕ
 numbers [] = []
 numbers (n unless b because d ∷ ls) = n ∷ numbers ls
-
--- none is smaller than the one before it; the first is to be at least m
-abbrev pub ascendFrom : ℕ → List ℕ → Bool
-ascendFrom m [] = true
-ascendFrom m (n ∷ ns) = leb m n && ascendFrom n ns
 
 -- each number once, where equal ones stand together; the number before the first is m
 abbrev pub onceAfter : ℕ → List ℕ → List ℕ

@@ -1,15 +1,16 @@
--- The lines, each once: what a condition asks, and what decides where it fails. By refusal number, under one number in the order in which they are asked.
+-- The lines, each once: what a condition asks, and what decides where it fails. In the order of refusals, under one number in the order in which they are asked.
 use Prim.Native.Nat.{ℕ}
 use mathlib.Core.Bool.{Bool, not, _||_}
-use lib.Dec.{eqb, leb}
+use lib.Dec.{eqb}
 use lib.ListN.{length}
+use Rattle.label.specs.declared.Parts.{Parts}
 use Rattle.records.specs.Places.{only}
 use Rattle.records.specs.House.{House, house, staff, freelancer, outsider, asNumber, user, script, session}
 use Rattle.records.specs.declared.Draft.{Draft}
 use Rattle.counter.specs.Numbers.{top}
 use Rattle.fields.specs.Fields.{isId, toSixteen, fromOne, isLevel, isSort, isYesNo, isPlain, isFirst}
-use Rattle.conditions.specs.Conditions.{isUser, isRoom, isScript, isSession, isDraft, leads, isStaff, isFreelancer, mayKill, isIn, isAt, isSeated, ofOrigin, sees, seen, levelWithin, categoriesWithin, draftRoom}
-use Rattle.reasons.specs.Reasons.{noRecord, aUser, aRoom, aScript, aSession, aDraft}
+use Rattle.conditions.specs.Conditions.{isUser, isRoom, isScript, isSession, isDraft, leads, isStaff, isFreelancer, mayKill, isIn, isAt, isSeated, ofOrigin, sees, seen, draftRoom}
+use Rattle.reasons.specs.Reasons.{Decided, noRecord, aUser, aRoom, aScript, aSession, aDraft}
 use Rattle.reasons.specs.Asking.{Line, _unless_, _because_}
 
 -- ---- 3
@@ -119,31 +120,13 @@ seatedAt h s v d = 8 unless isSeated (session h s) d because aDraft v (d .places
 abbrev pub originIs : House → ℕ → ℕ → Line
 originIs h k place = 8 unless ofOrigin (script h k) place because aScript k (script h k .origin) place
 
--- ---- 9: the level, then the categories
-abbrev pub opensLevel : House → ℕ → ℕ → Line
-opensLevel h u level = 9 unless levelWithin level (user h u .level) because aUser u (user h u .level) level
+-- ---- 9, 16: 02, L1: "9 now means the level fails or differs; 16 means only the categories do". Of two labels, of which the parts f fail or differ. The place
+-- never counts.
+abbrev pub levelHolds : Parts → Decided → Line
+levelHolds f d = 9 unless not (f .level) because d
 
-abbrev pub opensCategories : House → ℕ → ℕ → Line
-opensCategories h u c = 9 unless categoriesWithin c (user h u .categories) because aUser u (user h u .categories) c
-
-abbrev pub levelCovers : House → ℕ → ℕ → Line
-levelCovers h s k = 9 unless levelWithin (script h k .level) (session h s .level) because aSession s (session h s .level) (script h k .level)
-
-abbrev pub categoriesCover : House → ℕ → ℕ → Line
-categoriesCover h s k = 9 unless categoriesWithin (script h k .categories) (session h s .categories) because aSession s (session h s .categories) (script h k .categories)
-
-abbrev pub levelAsScript : House → ℕ → ℕ → Line
-levelAsScript h s k = 9 unless eqb (session h s .level) (script h k .level) because aSession s (session h s .level) (script h k .level)
-
-abbrev pub categoriesAsScript : House → ℕ → ℕ → Line
-categoriesAsScript h s k = 9 unless eqb (session h s .categories) (script h k .categories) because aSession s (session h s .categories) (script h k .categories)
-
--- of the scripts k₁ and k₂ of Import
-abbrev pub levelAlike : House → ℕ → ℕ → Line
-levelAlike h k₁ k₂ = 9 unless eqb (script h k₂ .level) (script h k₁ .level) because aScript k₂ (script h k₂ .level) (script h k₁ .level)
-
-abbrev pub categoriesAlike : House → ℕ → ℕ → Line
-categoriesAlike h k₁ k₂ = 9 unless eqb (script h k₂ .categories) (script h k₁ .categories) because aScript k₂ (script h k₂ .categories) (script h k₁ .categories)
+abbrev pub categoriesHold : Parts → Decided → Line
+categoriesHold f d = 16 unless not (f .categories) because d
 
 -- ---- 10, 11, 12: the count reached and its bound. 11 and 12 are asked after all of the records, of the last number issued and of how many changes are kept.
 abbrev pub roomForDraft : House → Line

@@ -1,9 +1,12 @@
 -- What several kinds of request ask in common: lists of lines.
 use Prim.Native.Nat.{ℕ}
 use mathlib.Core.List.{List, [], _∷_}
-use Rattle.records.specs.House.{House}
+use Rattle.label.specs.declared.Parts.{Parts}
+use Rattle.records.specs.House.{House, user, script, session}
+use Rattle.conditions.specs.Conditions.{opening, reading, updating, importing}
+use Rattle.reasons.specs.Reasons.{Decided, aUser, aScript, aSession}
 use Rattle.reasons.specs.Asking.{Line}
-use Rattle.reasons.specs.Lines.{anId, roomHigh, roomLow, userExists, roomExists, scriptExists, sessionExists, draftExists, leadsRoom, opensLevel, opensCategories}
+use Rattle.reasons.specs.Lines.{anId, roomHigh, roomLow, userExists, roomExists, scriptExists, sessionExists, draftExists, leadsRoom, levelHolds, categoriesHold}
 
 -- 03 to 06: u, w and the room. 05 asks its level between the two parts.
 unfoldable pub pairNumbers : ℕ → ℕ → ℕ → List Line
@@ -26,9 +29,28 @@ draftLed h u k v room =
     ∷ leadsRoom h u room
     ∷ []
 
+-- two labels, of which the parts f fail or differ: the level, then the categories, that a record holds and that are wanted
+abbrev pub labelLines : Parts → (ℕ → ℕ → Decided) → ℕ → ℕ → ℕ → ℕ → List Line
+labelLines f by level c level′ c′ = levelHolds f (by level level′) ∷ categoriesHold f (by c c′) ∷ []
+
 -- 10, 11, 12: the label of a session that is opened
 unfoldable pub opens : House → ℕ → ℕ → ℕ → List Line
-opens h u level c = opensLevel h u level ∷ opensCategories h u c ∷ []
+opens h u level c = labelLines (opening (user h u) level c) (aUser u) (user h u .level) (user h u .categories) level c
+
+-- 13: the session's label, the script's
+unfoldable pub covers : House → ℕ → ℕ → List Line
+covers h s k =
+    labelLines (reading (session h s) (script h k)) (aSession s) (session h s .level) (session h s .categories) (script h k .level) (script h k .categories)
+
+-- 14: the session's label, the script's
+unfoldable pub asScript : House → ℕ → ℕ → List Line
+asScript h s k =
+    labelLines (updating (session h s) (script h k)) (aSession s) (session h s .level) (session h s .categories) (script h k .level) (script h k .categories)
+
+-- 09: the label of script 2, that of script 1
+unfoldable pub alike : House → ℕ → ℕ → List Line
+alike h k₁ k₂ =
+    labelLines (importing (script h k₂) (script h k₁)) (aScript k₂) (script h k₂ .level) (script h k₂ .categories) (script h k₁ .level) (script h k₁ .categories)
 
 -- 13, 14: a session and a draft
 unfoldable pub draftAsked : House → ℕ → ℕ → ℕ → List Line

@@ -1,15 +1,16 @@
 -- What a reason says of the present records, a case for each line: a record that is named is there, the first value is what it holds, and the condition,
 -- which asks the second value of it, is false. 02, L7: "the condition named is false of those records".
-use Prim.Native.Nat.{ℕ, _<_}
+use Prim.Native.Nat.{ℕ, _<_, _≤_}
 use mathlib.Core.Path.{_≡_}
 use mathlib.Core.Bool.{true, false}
 use lib.Dec.{eqb}
 use lib.ListN.{length}
+use Rattle.label.specs.Labels.{contains}
 use Rattle.records.specs.Places.{only}
 use Rattle.records.specs.House.{House, staff, freelancer, outsider, asNumber, user, script, session, draftAt}
 use Rattle.records.specs.declared.Draft.{Draft}
 use Rattle.fields.specs.Fields.{isId, toSixteen, fromOne, isLevel, isSort, isYesNo, isPlain}
-use Rattle.conditions.specs.Conditions.{noUsers, isUser, isRoom, isScript, isSession, isDraft, leads, isStaff, isFreelancer, mayKill, isIn, isAt, isSeated, ofOrigin, sees, seen, levelWithin, categoriesWithin, draftRoom}
+use Rattle.conditions.specs.Conditions.{noUsers, isUser, isRoom, isScript, isSession, isDraft, leads, isStaff, isFreelancer, mayKill, isIn, isAt, isSeated, ofOrigin, sees, seen, draftRoom}
 use Rattle.reasons.specs.Reasons.{noRecord, aUser, aRoom, aScript, aSession, aDraft, reason}
 use Rattle.reasons.specs.declared.Reason.{Reason}
 
@@ -60,19 +61,24 @@ pub data Told (h : House) : Reason → Type 0 where
   notSeated : (s v : ℕ) (d : Draft) → isSession h s ≡ true → Live h v d → isSeated (session h s) d ≡ false → Told h (reason 8 (aDraft v (d .places) (only (session h s .place))))
   otherOrigin : (k place : ℕ) → isScript h k ≡ true → ofOrigin (script h k) place ≡ false → Told h (reason 8 (aScript k (script h k .origin) place))
   -- 9
-  levelAbove : (u level : ℕ) → isUser h u ≡ true → levelWithin level (user h u .level) ≡ false → Told h (reason 9 (aUser u (user h u .level) level))
-  categoriesMore : (u c : ℕ) → isUser h u ≡ true → categoriesWithin c (user h u .categories) ≡ false → Told h (reason 9 (aUser u (user h u .categories) c))
-  levelUnder : (s k : ℕ) → isSession h s ≡ true → isScript h k ≡ true → levelWithin (script h k .level) (session h s .level) ≡ false
+  levelAbove : (u level : ℕ) → isUser h u ≡ true → user h u .level < level → Told h (reason 9 (aUser u (user h u .level) level))
+  levelUnder : (s k : ℕ) → isSession h s ≡ true → isScript h k ≡ true → session h s .level < script h k .level
       → Told h (reason 9 (aSession s (session h s .level) (script h k .level)))
-  categoriesLack : (s k : ℕ) → isSession h s ≡ true → isScript h k ≡ true → categoriesWithin (script h k .categories) (session h s .categories) ≡ false
-      → Told h (reason 9 (aSession s (session h s .categories) (script h k .categories)))
   levelOther : (s k : ℕ) → isSession h s ≡ true → isScript h k ≡ true → eqb (session h s .level) (script h k .level) ≡ false
       → Told h (reason 9 (aSession s (session h s .level) (script h k .level)))
-  categoriesOther : (s k : ℕ) → isSession h s ≡ true → isScript h k ≡ true → eqb (session h s .categories) (script h k .categories) ≡ false
-      → Told h (reason 9 (aSession s (session h s .categories) (script h k .categories)))
   levelUnlike : (k₁ k₂ : ℕ) → isScript h k₁ ≡ true → isScript h k₂ ≡ true → eqb (script h k₂ .level) (script h k₁ .level) ≡ false
       → Told h (reason 9 (aScript k₂ (script h k₂ .level) (script h k₁ .level)))
-  categoriesUnlike : (k₁ k₂ : ℕ) → isScript h k₁ ≡ true → isScript h k₂ ≡ true → eqb (script h k₂ .categories) (script h k₁ .categories) ≡ false
-      → Told h (reason 9 (aScript k₂ (script h k₂ .categories) (script h k₁ .categories)))
+  -- 16: the level is as it should be
+  categoriesMore : (u level c : ℕ) → isUser h u ≡ true → level ≤ user h u .level → contains (user h u .categories) c ≡ false
+      → Told h (reason 16 (aUser u (user h u .categories) c))
+  categoriesLack : (s k : ℕ) → isSession h s ≡ true → isScript h k ≡ true → script h k .level ≤ session h s .level
+      → contains (session h s .categories) (script h k .categories) ≡ false
+      → Told h (reason 16 (aSession s (session h s .categories) (script h k .categories)))
+  categoriesOther : (s k : ℕ) → isSession h s ≡ true → isScript h k ≡ true → session h s .level ≡ script h k .level
+      → eqb (session h s .categories) (script h k .categories) ≡ false
+      → Told h (reason 16 (aSession s (session h s .categories) (script h k .categories)))
+  categoriesUnlike : (k₁ k₂ : ℕ) → isScript h k₁ ≡ true → isScript h k₂ ≡ true → script h k₂ .level ≡ script h k₁ .level
+      → eqb (script h k₂ .categories) (script h k₁ .categories) ≡ false
+      → Told h (reason 16 (aScript k₂ (script h k₂ .categories) (script h k₁ .categories)))
   -- 10
   full : draftRoom h ≡ false → Told h (reason 10 (noRecord (length (h .drafts)) 256))

@@ -12,6 +12,8 @@ ghost use Rattle.records.specs.House.{asNumber};
 ghost use Rattle.records.specs.Places.{only};
 ghost use Rattle.reasons.specs.Reasons.{decided, noRecord, aUser, aRoom, aScript, aSession, aDraft, bare};
 ghost use Rattle.reasons.specs.Asking.{_unless_, _because_, asked, told};
+ghost use Rattle.reasons.specs.Shared.{labelLines};
+use label::Parts;
 pub use shared::draft_asked;
 pub use shared::draft_led;
 
@@ -61,6 +63,17 @@ impl Asked {
     }
 }
 
+// The kinds of records that a reason names.
+const USER: u8 = 0x41;
+
+const ROOM: u8 = 0x42;
+
+const SCRIPT: u8 = 0x43;
+
+const SESSION: u8 = 0x44;
+
+const DRAFT: u8 = 0x45;
+
 // ---- one line: its number, its fact, and what decides where that fails
 fn line(number: u8, fact: bool, kind: u8, id: u32, held: u32, wanted: u32) -> Asked
     ensures { λ r. ⌜ r ≡ asked (number unless fact because decided kind id held wanted ∷ []) ⌝ }
@@ -88,31 +101,56 @@ fn no_record(number: u8, fact: bool, value: u32, bound: u32) -> Asked
 fn of_user(number: u8, fact: bool, id: u8, held: u32, wanted: u32) -> Asked
     ensures { λ r. ⌜ r ≡ asked (number unless fact because aUser id held wanted ∷ []) ⌝ }
 {
-    line(number, fact, 0x41, id as u32, held, wanted)
+    line(number, fact, USER, id as u32, held, wanted)
 }
 
 fn of_room(number: u8, fact: bool, id: u8, held: u32, wanted: u32) -> Asked
     ensures { λ r. ⌜ r ≡ asked (number unless fact because aRoom id held wanted ∷ []) ⌝ }
 {
-    line(number, fact, 0x42, id as u32, held, wanted)
+    line(number, fact, ROOM, id as u32, held, wanted)
 }
 
 fn of_script(number: u8, fact: bool, id: u8, held: u32, wanted: u32) -> Asked
     ensures { λ r. ⌜ r ≡ asked (number unless fact because aScript id held wanted ∷ []) ⌝ }
 {
-    line(number, fact, 0x43, id as u32, held, wanted)
+    line(number, fact, SCRIPT, id as u32, held, wanted)
 }
 
 fn of_session(number: u8, fact: bool, id: u8, held: u32, wanted: u32) -> Asked
     ensures { λ r. ⌜ r ≡ asked (number unless fact because aSession id held wanted ∷ []) ⌝ }
 {
-    line(number, fact, 0x44, id as u32, held, wanted)
+    line(number, fact, SESSION, id as u32, held, wanted)
 }
 
 fn of_draft(number: u8, fact: bool, id: u32, held: u32, wanted: u32) -> Asked
     ensures { λ r. ⌜ r ≡ asked (number unless fact because aDraft id held wanted ∷ []) ⌝ }
 {
-    line(number, fact, 0x45, id, held, wanted)
+    line(number, fact, DRAFT, id, held, wanted)
+}
+
+// Two labels, of which these parts fail or differ: the record holds level and categories, and l and c are wanted. The place never counts.
+fn labels(
+    parts: Parts,
+    kind: u8,
+    id: u8,
+    level: u8,
+    categories: u16,
+    l: u8,
+    c: u16,
+) -> Asked
+    ensures { λ r. ⌜ r ≡ asked (labelLines parts (decided kind id) level categories l c) ⌝ }
+{
+    if parts.level {
+        return line(9, false, kind, id as u32, level as u32, l as u32);
+    }
+    line(
+        16,
+        !parts.categories,
+        kind,
+        id as u32,
+        categories as u32,
+        c as u32,
+    )
 }
 
 // What must exist and does not.

@@ -3,9 +3,12 @@ ghost use mathlib.Core.Path.{_≡_};
 ghost use mathlib.Core.List.{[], _∷_};
 ghost use Rattle.records.specs.House.{view};
 ghost use Rattle.reasons.specs.Asking.{asked, both};
-ghost use Rattle.reasons.specs.Lines.{userExists, roomExists, enrollerExists, userNew, roomNew, enrolls, administers, leadsRoom, ofStaff, notOfStaff, aFreelancer, notYetIn, inRoom, opensLevel, opensCategories};
+ghost use Rattle.reasons.specs.Lines.{userExists, roomExists, enrollerExists, userNew, roomNew, enrolls, administers, leadsRoom, ofStaff, notOfStaff, aFreelancer, notYetIn, inRoom};
+ghost use Rattle.reasons.specs.Shared.{opens};
 use crate::Asked;
+use crate::USER;
 use crate::flag;
+use crate::labels;
 use crate::missing;
 use crate::no_record;
 use crate::of_room;
@@ -166,25 +169,23 @@ impl Asked {
         of_user(8, fact, w, user.rooms, only(room))
     }
 
-    pub fn opens_level(self, records: &Cells, u: u8, level: u8) -> Asked
-        ensures { λ r. ⌜ r ≡ both self (asked (opensLevel (view (now (records .entry))) u level ∷ [])) ⌝ }
+    // Of a session that is opened: its label is within the owner's.
+    pub fn opens(self, records: &Cells, u: u8, level: u8, categories: u16) -> Asked
+        ensures { λ r. ⌜ r ≡ both self (asked (opens (view (now (records .entry))) u level categories)) ⌝ }
     {
         let Asked::Holds = self else {
             return self;
         };
+        let parts = conditions::opening(records, u as usize, level, categories);
         let owner = records::user_at(records, u as usize);
-        let fact = conditions::level_within(level, owner.level);
-        of_user(9, fact, u, owner.level as u32, level as u32)
-    }
-
-    pub fn opens_categories(self, records: &Cells, u: u8, categories: u16) -> Asked
-        ensures { λ r. ⌜ r ≡ both self (asked (opensCategories (view (now (records .entry))) u categories ∷ [])) ⌝ }
-    {
-        let Asked::Holds = self else {
-            return self;
-        };
-        let owner = records::user_at(records, u as usize);
-        let fact = conditions::categories_within(categories, owner.categories);
-        of_user(9, fact, u, owner.categories as u32, categories as u32)
+        labels(
+            parts,
+            USER,
+            u,
+            owner.level,
+            owner.categories,
+            level,
+            categories,
+        )
     }
 }

@@ -3,9 +3,12 @@ ghost use mathlib.Core.Path.{_≡_};
 ghost use mathlib.Core.List.{[], _∷_};
 ghost use Rattle.records.specs.House.{view, draftAt};
 ghost use Rattle.reasons.specs.Asking.{asked, both};
-ghost use Rattle.reasons.specs.Lines.{sessionExists, sessionNew, endsSession, writesIn, seesDraft, seatedAt, levelCovers, categoriesCover, levelAsScript, categoriesAsScript};
+ghost use Rattle.reasons.specs.Lines.{sessionExists, sessionNew, endsSession, writesIn, seesDraft, seatedAt};
+ghost use Rattle.reasons.specs.Shared.{covers, asScript};
 use crate::Asked;
+use crate::SESSION;
 use crate::flag;
+use crate::labels;
 use crate::missing;
 use crate::of_draft;
 use crate::of_session;
@@ -88,63 +91,45 @@ impl Asked {
         of_draft(8, fact, number, draft.places, only(found.place))
     }
 
-    pub fn level_covers(self, records: &Cells, session: u8, script: u8) -> Asked
-        ensures { λ r. ⌜ r ≡ both self (asked (levelCovers (view (now (records .entry))) session script ∷ [])) ⌝ }
+    // Of Read: the session's label dominates the script's, but for the place.
+    pub fn covers(self, records: &Cells, session: u8, script: u8) -> Asked
+        ensures { λ r. ⌜ r ≡ both self (asked (covers (view (now (records .entry))) session script)) ⌝ }
     {
         let Asked::Holds = self else {
             return self;
         };
-        let over = records::session_at(records, session as usize);
-        let under = records::script_at(records, script as usize);
-        let fact = conditions::level_within(under.level, over.level);
-        of_session(9, fact, session, over.level as u32, under.level as u32)
-    }
-
-    pub fn categories_cover(self, records: &Cells, session: u8, script: u8) -> Asked
-        ensures { λ r. ⌜ r ≡ both self (asked (categoriesCover (view (now (records .entry))) session script ∷ [])) ⌝ }
-    {
-        let Asked::Holds = self else {
-            return self;
-        };
-        let over = records::session_at(records, session as usize);
-        let under = records::script_at(records, script as usize);
-        let fact = conditions::categories_within(under.categories, over.categories);
-        of_session(
-            9,
-            fact,
+        let parts = conditions::reading(records, session as usize, script as usize);
+        let found = records::session_at(records, session as usize);
+        let wanted = records::script_at(records, script as usize);
+        labels(
+            parts,
+            SESSION,
             session,
-            over.categories as u32,
-            under.categories as u32,
+            found.level,
+            found.categories,
+            wanted.level,
+            wanted.categories,
         )
     }
 
-    pub fn level_as_script(self, records: &Cells, session: u8, script: u8) -> Asked
-        ensures { λ r. ⌜ r ≡ both self (asked (levelAsScript (view (now (records .entry))) session script ∷ [])) ⌝ }
+    // Of Update: the session's label is the script's, but for the place.
+    pub fn as_script(self, records: &Cells, session: u8, script: u8) -> Asked
+        ensures { λ r. ⌜ r ≡ both self (asked (asScript (view (now (records .entry))) session script)) ⌝ }
     {
         let Asked::Holds = self else {
             return self;
         };
+        let parts = conditions::updating(records, session as usize, script as usize);
         let found = records::session_at(records, session as usize);
         let wanted = records::script_at(records, script as usize);
-        let fact = found.level == wanted.level;
-        of_session(9, fact, session, found.level as u32, wanted.level as u32)
-    }
-
-    pub fn categories_as_script(self, records: &Cells, session: u8, script: u8) -> Asked
-        ensures { λ r. ⌜ r ≡ both self (asked (categoriesAsScript (view (now (records .entry))) session script ∷ [])) ⌝ }
-    {
-        let Asked::Holds = self else {
-            return self;
-        };
-        let found = records::session_at(records, session as usize);
-        let wanted = records::script_at(records, script as usize);
-        let fact = found.categories == wanted.categories;
-        of_session(
-            9,
-            fact,
+        labels(
+            parts,
+            SESSION,
             session,
-            found.categories as u32,
-            wanted.categories as u32,
+            found.level,
+            found.categories,
+            wanted.level,
+            wanted.categories,
         )
     }
 }

@@ -2,7 +2,7 @@
 ghost use mathlib.Core.Path.{_≡_};
 ghost use Rattle.records.specs.House.{view};
 ghost use Rattle.reasons.specs.Asking.{asked, both};
-ghost use Rattle.reasons.specs.Shared.{pairNumbers, pairLed, draftLed, opens, draftAsked};
+ghost use Rattle.reasons.specs.Shared.{pairNumbers, pairLed, draftLed, draftAsked};
 ghost use Rattle.reasons.specs.Reach.{reachedBy};
 use crate::Asked;
 use crate::Reached;
@@ -22,13 +22,6 @@ impl Asked {
             .user_exists(records, w)
             .room_exists(records, room)
             .leads(records, u, room)
-    }
-
-    pub fn opens(self, records: &Cells, u: u8, level: u8, categories: u16) -> Asked
-        ensures { λ r. ⌜ r ≡ both self (asked (opens (view (now (records .entry))) u level categories)) ⌝ }
-    {
-        self.opens_level(records, u, level)
-            .opens_categories(records, u, categories)
     }
 }
 

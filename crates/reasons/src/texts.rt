@@ -3,10 +3,13 @@ ghost use mathlib.Core.Path.{_≡_};
 ghost use mathlib.Core.List.{[], _∷_};
 ghost use Rattle.records.specs.House.{view, draftAt};
 ghost use Rattle.reasons.specs.Asking.{asked, both};
-ghost use Rattle.reasons.specs.Lines.{scriptExists, draftExists, scriptNew, draftAmong, draftNotAmong, originIs, levelAlike, categoriesAlike};
+ghost use Rattle.reasons.specs.Lines.{scriptExists, draftExists, scriptNew, draftAmong, draftNotAmong, originIs};
+ghost use Rattle.reasons.specs.Shared.{alike};
 ghost use Rattle.reasons.specs.Reach.{reachedBy};
 use crate::Asked;
 use crate::Reached;
+use crate::SCRIPT;
+use crate::labels;
 use crate::missing;
 use crate::of_draft;
 use crate::of_script;
@@ -91,33 +94,24 @@ impl Asked {
         of_script(8, fact, script, found.origin as u32, place as u32)
     }
 
-    pub fn level_alike(self, records: &Cells, script1: u8, script2: u8) -> Asked
-        ensures { λ r. ⌜ r ≡ both self (asked (levelAlike (view (now (records .entry))) script1 script2 ∷ [])) ⌝ }
+    // Of Import: the label of script 2 is that of script 1.
+    pub fn alike(self, records: &Cells, script1: u8, script2: u8) -> Asked
+        ensures { λ r. ⌜ r ≡ both self (asked (alike (view (now (records .entry))) script1 script2)) ⌝ }
     {
         let Asked::Holds = self else {
             return self;
         };
+        let parts = conditions::importing(records, script2 as usize, script1 as usize);
         let from = records::script_at(records, script1 as usize);
         let to = records::script_at(records, script2 as usize);
-        let fact = to.level == from.level;
-        of_script(9, fact, script2, to.level as u32, from.level as u32)
-    }
-
-    pub fn categories_alike(self, records: &Cells, script1: u8, script2: u8) -> Asked
-        ensures { λ r. ⌜ r ≡ both self (asked (categoriesAlike (view (now (records .entry))) script1 script2 ∷ [])) ⌝ }
-    {
-        let Asked::Holds = self else {
-            return self;
-        };
-        let from = records::script_at(records, script1 as usize);
-        let to = records::script_at(records, script2 as usize);
-        let fact = to.categories == from.categories;
-        of_script(
-            9,
-            fact,
+        labels(
+            parts,
+            SCRIPT,
             script2,
-            to.categories as u32,
-            from.categories as u32,
+            to.level,
+            to.categories,
+            from.level,
+            from.categories,
         )
     }
 }

@@ -17,13 +17,14 @@ use Rattle.records.specs.House.{House}
 use Rattle.effects.specs.declared.Change.{Change}
 use Rattle.counter.specs.Numbers.{top, nextAfter}
 use Rattle.reasons.specs.Reasons.{bare, reason}
-use Rattle.reasons.specs.Asking.{Line, _unless_, _because_, asked, both, told, FirstFailing, here, later, numbers, ascendFrom}
-use Rattle.reasons.specs.Shared.{pairNumbers, pairLed, draftLed, opens, draftAsked}
+use Rattle.reasons.specs.Asking.{Line, _unless_, _because_, asked, both, told, FirstFailing, here, later, numbers}
+use Rattle.reasons.specs.Order.{ascendFrom}
+use Rattle.reasons.specs.Shared.{pairNumbers, pairLed, draftLed, opens, covers, asScript, alike, draftAsked}
 use Rattle.reasons.specs.declared.Reason.{Reason}
 use Rattle.reasons.specs.declared.Asked.{Asked}
 use Rattle.reasons.specs.declared.Asked.the-variants.{Holds, Fails}
 use Rattle.reasons.proofs.Asking.{more}
-use Rattle.reasons.proofs.Order.{first-fails, Verdict, grant, refusal, verdict, zeros-if-all, all-if-zero}
+use Rattle.reasons.proofs.Order.{first-fails, Verdict, grant, refusal, verdict, lowest, zeros-if-all, all-if-zero}
 use Rattle.judge.specs.declared.Ruling.{Ruling}
 use Rattle.judge.specs.declared.Ruling.the-variants.{Refused, Pass, Keep, KeepNumbered}
 use Rattle.judge.specs.Kinds.{enrolWhere, establishLines, importLines, disbandLines, createLines, killLines, takeBackLines, linesOf, grantOf, grantIf, rulingOf}
@@ -35,9 +36,9 @@ use Rattle.history.specs.Desk.{verdictOf, changeOf, deskRules}
 use Rattle.why.specs.Why.{afterLines, deskLines, reasonOf, reasonOfBytes}
 use Rattle.why.specs.Explained.{refusalOf, askedBy, TrueOf, of-records, no-number, no-change, Explained}
 
--- ---- the numbers of all that is asked ascend from 3 on
-lines-ascend : (h : House) (last kept : ℕ) (q : Request) → ascendFrom 3 (numbers (deskLines h last kept q)) ≡ true
-unfolding enrolWhere establishLines pairNumbers pairLed draftLed importLines disbandLines opens draftAsked createLines killLines takeBackLines
+-- ---- the numbers of all that is asked ascend in the order of refusals
+lines-ascend : (h : House) (last kept : ℕ) (q : Request) → ascendFrom 0 (numbers (deskLines h last kept q)) ≡ true
+unfolding enrolWhere establishLines pairNumbers pairLed draftLed importLines disbandLines opens covers asScript alike draftAsked createLines killLines takeBackLines
 lines-ascend h last kept (Enrol u new sort level c admin) = refl
 lines-ascend h last kept (Establish u room) = refl
 lines-ascend h last kept (JoinStaff u w room) = refl
@@ -110,6 +111,7 @@ module _ (d : Desk House Change) (q : Request) where
         all-zeros = λ a. zeros-if-all a;
         all-held = all-if-zero (askedBy d q) (lines-ascend (d .current) (d .last) (length (d .log)) q);
         first-named = first (verdict (askedBy d q));
+        lowest = λ k n f. lowest 0 (lines-ascend (d .current) (d .last) (length (d .log)) q) (first (verdict (askedBy d q)) n) f;
         true-of = λ n. named-true (first (verdict (askedBy d q)) n);
       }
     where

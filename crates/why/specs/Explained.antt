@@ -1,6 +1,6 @@
 -- What a reason says of a desk and its answer. 02, L7: "the condition named is false of those records, each condition earlier in the order that could be asked is
 -- true, and a grant is explained exactly when all conditions hold"; "agrees with the judge for every whole frame".
-use Prim.Native.Nat.{ℕ}
+use Prim.Native.Nat.{ℕ, _≤_}
 use mathlib.Core.Path.{_≡_}
 use mathlib.Core.List.{List}
 use lib.ListN.{length}
@@ -9,7 +9,8 @@ use Rattle.records.specs.House.{House}
 use Rattle.effects.specs.declared.Change.{Change}
 use Rattle.counter.specs.Numbers.{top}
 use Rattle.reasons.specs.Reasons.{noRecord, reason, zeros}
-use Rattle.reasons.specs.Asking.{Line, AllHold, FirstFailing}
+use Rattle.reasons.specs.Asking.{Line, AllHold, FirstFailing, Failing}
+use Rattle.reasons.specs.Order.{rank}
 use Rattle.reasons.specs.Told.{Told}
 use Rattle.reasons.specs.declared.Reason.{Reason}
 use Rattle.history.specs.Machine.{Desk, step}
@@ -34,10 +35,11 @@ pub data TrueOf (d : Desk House Change) : Reason → Type 0 where
   no-number : d .last ≡ top → TrueOf d (reason 11 (noRecord (d .last) top))
   no-change : length (d .log) ≡ 0 → TrueOf d (reason 12 (noRecord (length (d .log)) 0))
 
--- r explains the answer of d to q
+-- r explains the answer of d to q; by the order of refusals no condition that fails stands before the one named
 pub record Explained (d : Desk House Change) (q : Request) (r : Reason) : Type 0 where
   pub as-answered : r .number ≡ refusalOf (step deskRules d q .answer)
   pub all-zeros : AllHold (askedBy d q) → r ≡ zeros
   pub all-held : r .number ≡ 0 → AllHold (askedBy d q)
   pub first-named : (r .number ≡ 0 → ⊥) → FirstFailing r (askedBy d q)
+  pub lowest : (k : ℕ) → (r .number ≡ 0 → ⊥) → Failing k (askedBy d q) → rank (r .number) ≤ rank k
   pub true-of : (r .number ≡ 0 → ⊥) → TrueOf d r

@@ -1,6 +1,7 @@
 -- `desk_dominates` meets its contract: each way through the code knows what the two numbers unpack to, and there the definition computes.
 use borrow.Author.Needs.{needs}
-use mathlib.Core.Path.{sym, _∙_}
+use mathlib.Core.Path.{sym, ap, _∙_}
+use Rattle.label.specs.Labels.{nothing}
 use Rattle.editor.proofs.desk_dominates.Statement.{statement}
 use Rattle.editor.proofs.desk_dominates.Tie as tie
 
@@ -35,21 +36,24 @@ returns-2 c =
 dominates-requires : tie.Need-dominates-requires
 dominates-requires c κs = search needs
 
+nothing-requires : tie.Need-nothing-requires
+nothing-requires c κs = search needs
+
 returns-3 : tie.Need-returns-3
 returns-3 c =
-    let second = c .before .before .before in
+    let second = c .before .before .before .before in
     let first = second .before .before .before .before in
     let a = sym (first .before .before .unpack .ensures) ∙ first .over .given .1 in
     let b = sym (second .before .before .unpack2 .ensures) ∙ second .under .given .1 in
-    simp (a, b, sym (c .before .dominates .ensures) ∙ c .if1 .taken)
+    simp (a, b, sym (c .before .nothing .ensures ∙ ap nothing (c .before .before .dominates .ensures)) ∙ c .if1 .taken)
 
 returns-4 : tie.Need-returns-4
 returns-4 c =
-    let second = c .before .before .before in
+    let second = c .before .before .before .before in
     let first = second .before .before .before .before in
     let a = sym (first .before .before .unpack .ensures) ∙ first .over .given .1 in
     let b = sym (second .before .before .unpack2 .ensures) ∙ second .under .given .1 in
-    simp (a, b, sym (c .before .dominates .ensures) ∙ c .if1 .left)
+    simp (a, b, sym (c .before .nothing .ensures ∙ ap nothing (c .before .before .dominates .ensures)) ∙ c .if1 .left)
 
 pub desk-dominates-spec : {M : Type 1} → statement M
 desk-dominates-spec =
@@ -64,5 +68,6 @@ desk-dominates-spec =
     enum-told-2
     returns-2
     dominates-requires
+    nothing-requires
     returns-3
     returns-4)
