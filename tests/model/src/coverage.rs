@@ -1,4 +1,4 @@
-// What a set of runs reached: pairs of kind and answer, conditions with their reasons, and events worth a name.
+// What a set of runs reached: pairs of kind and answer, conditions with their reasons, refusals that apply together, and events worth a name.
 
 use crate::batch::bytes;
 use crate::conditions::CONDITIONS;
@@ -8,25 +8,38 @@ use crate::reasons::Failed;
 use crate::request::{frame, Frame, Request, KINDS};
 use std::collections::{BTreeMap, BTreeSet};
 
-/// The answers that 01's tables allow a whole request of the kind, as bytes.
+/// The answers that the tables of 01 and 02 allow a whole request of the kind, as bytes.
 fn allowed(kind: u8) -> Vec<u8> {
     let refusals: &[u8] = match kind {
         0x01 | 0x02 => &[3, 4, 5, 6],
         0x03..=0x06 => &[3, 4, 6, 7, 8],
         0x07 | 0x08 | 0x0A => &[3, 4, 6, 8],
-        0x09 => &[3, 4, 6, 8, 9, 10, 11],
+        0x09 => &[3, 4, 6, 8, 9, 16, 10, 11],
         0x0B | 0x16 => &[3, 4, 6],
-        0x10 => &[3, 4, 5, 8, 9],
-        0x11 => &[3, 4, 5, 7, 9],
-        0x12 => &[3, 4, 5, 9],
-        0x13 => &[3, 4, 8, 9],
-        0x14 => &[3, 4, 7, 8, 9, 10, 11],
+        0x10 => &[3, 4, 5, 8, 9, 16],
+        0x11 => &[3, 4, 5, 7, 9, 16],
+        0x12 => &[3, 4, 5, 9, 16],
+        0x13 => &[3, 4, 8, 9, 16],
+        0x14 => &[3, 4, 7, 8, 9, 16, 10, 11],
         0x15 => &[3, 4, 5, 7, 10, 11],
         0x20 => &[3, 4, 6, 12],
         _ => unreachable!("KINDS are known"),
     };
     let granted = if matches!(kind, 0x09 | 0x14 | 0x15) { 0x81 } else { 0x80 };
     std::iter::once(granted).chain(refusals.iter().map(|n| 0xC0 + n)).collect()
+}
+
+/// Refusals from 9 on that can apply to one request of the kind, all that do; the first is given.
+fn together(kind: u8) -> &'static [&'static [u8]] {
+    match kind {
+        0x10..=0x13 => &[&[9], &[9, 16], &[16]],
+        0x09 | 0x14 => &[
+            &[9], &[9, 16], &[16],
+            &[9, 10], &[9, 16, 10], &[16, 10], &[10],
+            &[9, 11], &[9, 16, 11], &[16, 11], &[11],
+        ],
+        _ => &[],
+    }
 }
 
 const EVENTS: [&str; 17] = [
@@ -54,6 +67,8 @@ pub struct Coverage {
     pairs: BTreeMap<(u8, u8), usize>,
     /// By the condition's place in the table and the kind of request.
     conditions: BTreeMap<(usize, u8), usize>,
+    /// By the kind of request and all the refusals that applied.
+    together: BTreeMap<(u8, Vec<u8>), usize>,
     /// Reasons that are in no row of the table.
     strays: BTreeSet<String>,
     events: BTreeMap<&'static str, usize>,
@@ -92,6 +107,22 @@ impl Coverage {
             }
             println!("{line}");
         }
+        missing.extend(self.never_together(asked));
+        missing
+    }
+
+    /// The same of the refusals that apply together, where the last of them is asked for.
+    fn never_together(&self, asked: impl Fn(u8) -> bool) -> Vec<String> {
+        let mut missing = Vec::new();
+        for kind in KINDS {
+            for refusals in together(kind).iter().filter(|r| r.last().is_some_and(|n| asked(*n))) {
+                let times = self.together.get(&(kind, refusals.to_vec())).copied().unwrap_or(0);
+                println!("{kind:02X} together {refusals:?}: {times}");
+                if times == 0 {
+                    missing.push(format!("{kind:02X} together {refusals:?}"));
+                }
+            }
+        }
         missing
     }
 
@@ -122,6 +153,10 @@ impl Coverage {
             *self.pairs.entry((request.kind(), answer.byte())).or_default() += 1;
             if let Answer::Refused(n, failed) = answer {
                 self.refused(request.kind(), n, &failed);
+                if !(3..=8).contains(&n) {
+                    let refusals = desk.refusals(&request).map(|(n, _)| n).collect();
+                    *self.together.entry((request.kind(), refusals)).or_default() += 1;
+                }
                 if n == 12 && in_a_row >= 32 {
                     self.event("32 take-backs in a row, the 33rd refused with 12");
                 }

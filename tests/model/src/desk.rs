@@ -14,6 +14,9 @@ pub const RW: u8 = 1;
 pub const MOST_DRAFTS: usize = 256;
 pub const MOST_KEPT: usize = 32;
 
+/// A level and categories; the place is the record's own.
+pub type Label = (u8, u16);
+
 #[derive(Clone, PartialEq, Eq, Debug)]
 pub struct User {
     pub sort: u8,
@@ -44,6 +47,24 @@ pub struct Session {
 pub struct Draft {
     pub script: u8,
     pub places: Places,
+}
+
+impl User {
+    pub fn label(&self) -> Label {
+        (self.level, self.c)
+    }
+}
+
+impl Script {
+    pub fn label(&self) -> Label {
+        (self.level, self.c)
+    }
+}
+
+impl Session {
+    pub fn label(&self) -> Label {
+        (self.level, self.c)
+    }
 }
 
 /// The records of one house.

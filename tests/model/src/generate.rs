@@ -48,19 +48,15 @@ const STYLES: [Weights; 5] = [MIXED, PEOPLE, ROOMS, TAKING, DRAFTS];
 struct Player {
     chance: Chance,
     desk: Desk,
-    /// A few labels, so that equal labels happen.
-    labels: Vec<(u8, u16)>,
+    /// A few labels, so that equal ones happen, and ones that differ in one part.
+    labels: Vec<Label>,
 }
 
 /// A run of `count` requests as bytes; some end in an unknown kind or a cut body, unless the run shall be whole.
 pub fn generate(seed: u64, count: usize, opened: u32, whole: bool) -> Vec<u8> {
     let mut chance = Chance::new(seed);
     let style = STYLES[chance.below(STYLES.len())];
-    let mut labels = vec![(7, 0xFFFF), (0, 0)];
-    for _ in 0..3 {
-        let c = [0x0001, 0x8000, 0x0003, 0x00FF, 0x8001][chance.below(5)];
-        labels.push((chance.below(8) as u8, c));
-    }
+    let labels = labels(&mut chance);
     let ending = chance.below(8);
     let streaks = chance.below(4);
     let stray = if chance.percent(40) { 1 + chance.below(6) } else { 0 };
@@ -102,13 +98,21 @@ pub fn generate(seed: u64, count: usize, opened: u32, whole: bool) -> Vec<u8> {
     out
 }
 
+fn labels(chance: &mut Chance) -> Vec<Label> {
+    let categories = [0x0001, 0x8000, 0x0003, 0x00FF, 0x8001];
+    let (level, c) = (chance.below(8) as u8, categories[chance.below(5)]);
+    let (other_level, other_c) = (chance.below(8) as u8, categories[chance.below(5)]);
+    vec![(7, 0xFFFF), (0, 0), (level, c), (level, other_c), (other_level, c)]
+}
+
 impl Player {
     fn next(&mut self, weights: &Weights) -> Request {
         let spent = self.desk.house.drafts.len() == MOST_DRAFTS || self.desk.last == u32::MAX;
-        if spent && self.chance.percent(15) {
-            // Otherwise in order, so 10 or 11.
+        if spent && self.chance.percent(25) {
+            // Otherwise in order, so 10 or 11; or the label is wrong too, so 9 or 16.
             let kind = self.chance.one_of(&[0x09, 0x14, 0x15]).unwrap();
-            if let Some(request) = self.propose(kind) {
+            let request = if self.chance.percent(50) { self.propose(kind) } else { self.other_label() };
+            if let Some(request) = request {
                 return request;
             }
         }
@@ -139,7 +143,7 @@ impl Player {
         unreachable!()
     }
 
-    fn label(&mut self) -> (u8, u16) {
+    fn label(&mut self) -> Label {
         if self.chance.percent(12) {
             return (self.chance.below(8) as u8, self.chance.next() as u16);
         }
@@ -147,9 +151,8 @@ impl Player {
     }
 
     /// A label for a session of u: mostly one that u covers.
-    fn label_of(&mut self, u: u8) -> (u8, u16) {
-        let user = &self.desk.house.users[&u];
-        let (level, c) = (user.level, user.c);
+    fn label_of(&mut self, u: u8) -> Label {
+        let (level, c) = self.desk.house.users[&u].label();
         if self.chance.percent(30) {
             return (level, c);
         }
@@ -267,16 +270,7 @@ impl Player {
                 let (script, v) = self.draft(|d, _| d.places.contains(room))?;
                 Remove { u, script, v, room }
             }
-            0x09 => {
-                let (room, u) = self.led_room()?;
-                let (script1, v) = self.draft(|_, s| s.origin == room)?;
-                let (level, c) = {
-                    let one = &self.desk.house.scripts[&script1];
-                    (one.level, one.c)
-                };
-                let script2 = self.script(|s| s.origin == HOUSE && s.level == level && s.c == c)?;
-                Import { u, script1, v, script2, room }
-            }
+            0x09 => return self.import(|one, other| one == other),
             0x0A => {
                 let (room, u) = self.led_room()?;
                 let (script, v) = self.draft(|d, s| s.origin == HOUSE && d.places.contains(room))?;
@@ -319,16 +313,7 @@ impl Player {
                 })?;
                 Read { s, script, v }
             }
-            0x14 => {
-                let s = self.session(|s| s.place.is_some())?;
-                let session = self.desk.house.sessions[&s].clone();
-                let (script, v) = self.draft(|d, script| {
-                    d.places.contains(session.place.unwrap())
-                        && script.level == session.level
-                        && script.c == session.c
-                })?;
-                Update { s, script, v }
-            }
+            0x14 => return self.update(|one, other| one == other),
             0x15 => {
                 let s = self.session(|s| s.place.is_some())?;
                 let script = self.free(|h, n| h.scripts.contains_key(&n))?;
@@ -344,6 +329,31 @@ impl Player {
             0x20 => TakeBack { u: self.user(|u| u.administrator)? },
             _ => return None,
         })
+    }
+
+    /// An Import in order, if the two labels are.
+    fn import(&mut self, fits: impl Fn(Label, Label) -> bool) -> Option<Request> {
+        let (room, u) = self.led_room()?;
+        let (script1, v) = self.draft(|_, s| s.origin == room)?;
+        let label = self.desk.house.scripts[&script1].label();
+        let script2 = self.script(|s| s.origin == HOUSE && fits(label, s.label()))?;
+        Some(Import { u, script1, v, script2, room })
+    }
+
+    /// An Update likewise.
+    fn update(&mut self, fits: impl Fn(Label, Label) -> bool) -> Option<Request> {
+        let s = self.session(|s| s.place.is_some())?;
+        let session = &self.desk.house.sessions[&s];
+        let (place, label) = (session.place?, session.label());
+        let (script, v) = self.draft(|d, script| d.places.contains(place) && fits(label, script.label()))?;
+        Some(Update { s, script, v })
+    }
+
+    /// One of these with a wrong label: the level differs, the categories, or both.
+    fn other_label(&mut self) -> Option<Request> {
+        let parts = self.chance.one_of(&[(true, false), (false, true), (true, true)])?;
+        let fits = |one: Label, other: Label| (one.0 != other.0, one.1 != other.1) == parts;
+        if self.chance.percent(65) { self.import(fits) } else { self.update(fits) }
     }
 
     /// A request likely refused: one in order with a record or a byte changed, or any at all.
@@ -372,7 +382,7 @@ impl Player {
         }
     }
 
-    /// In order but for one fact of row 3, 4, 8 or 9 that a random change seldom meets.
+    /// In order but for one fact of row 3, 4, 8, 9 or 16 that a random change seldom meets.
     fn near_miss(&mut self) -> Option<Request> {
         let (room, u) = self.led_room()?;
         Some(match self.chance.below(9) {
@@ -408,17 +418,13 @@ impl Player {
                 let script2 = self.free(|h, n| h.scripts.contains_key(&n))?;
                 Import { u, script1, v, script2, room }
             }
+            6 => return self.other_label(),
             near => {
                 let (script1, v) = self.draft(|_, s| s.origin == room)?;
                 let (other, w) = self.draft(|_, _| true)?;
-                let (level, c) = self.labels[self.chance.below(self.labels.len())];
                 match near {
-                    6 => {
-                        let script2 = self.script(|s| s.origin != HOUSE)?;
-                        Import { u, script1, v, script2, room }
-                    }
                     7 => {
-                        let script2 = self.script(|s| s.origin == HOUSE && (s.level, s.c) != (level, c))?;
+                        let script2 = self.script(|s| s.origin != HOUSE)?;
                         Import { u, script1, v, script2, room }
                     }
                     _ if self.chance.percent(50) => Import { u, script1, v: w, script2: other, room },

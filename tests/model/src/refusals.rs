@@ -1,4 +1,4 @@
-// The refusals of document 01, row by row, each with the record that decides and the two values.
+// The refusals of documents 01 and 02, row by row, each with the record that decides and the two values.
 
 use crate::desk::*;
 use crate::places::Places;
@@ -11,9 +11,23 @@ const LAST_LEVEL: u8 = 7;
 const NO: u8 = 0;
 const YES: u8 = 1;
 
-/// A level and categories.
-type Label = (u8, u16);
 type Clause = Option<Failed>;
+type Row = fn(&Desk, &Request) -> Clause;
+
+/// The rows in the order in which they are asked: 16 directly after 9.
+const ROWS: [(u8, Row); 11] = [
+    (3, Desk::row_3),
+    (4, Desk::row_4),
+    (5, Desk::row_5),
+    (6, Desk::row_6),
+    (7, Desk::row_7),
+    (8, Desk::row_8),
+    (9, Desk::row_9),
+    (16, Desk::row_16),
+    (10, Desk::row_10),
+    (11, Desk::row_11),
+    (12, Desk::row_12),
+];
 
 fn when(fails: bool, clause: &'static str, record: Record, held: impl Into<u32>, wanted: impl Into<u32>) -> Clause {
     fails.then(|| Failed { clause, record, held: held.into(), wanted: wanted.into() })
@@ -34,34 +48,24 @@ fn new(found: bool, clause: &'static str, record: Record) -> Clause {
     when(found, clause, record, record.id(), record.id())
 }
 
-/// The level is asked first, then the categories.
-fn covers(record: Record, holds: Label, asked: Label) -> Clause {
-    when(asked.0 > holds.0, "level not covered", record, holds.0, asked.0)
-        .or(when(asked.1 & !holds.1 != 0, "categories not covered", record, holds.1, asked.1))
+/// The two labels of a request: the one that the record has, and the one wanted of it.
+enum Labels {
+    /// The record's must cover the other.
+    Cover(Record, Label, Label),
+    /// They must be equal.
+    Equal(Record, Label, Label),
 }
-
-fn equals(record: Record, holds: Label, asked: Label) -> Clause {
-    when(asked.0 != holds.0, "levels differ", record, holds.0, asked.0)
-        .or(when(asked.1 != holds.1, "categories differ", record, holds.1, asked.1))
-}
+use Labels::*;
 
 impl Desk {
-    /// The lowest refusal that applies, with the first condition under it that fails. Rows are asked in order, so each row may
-    /// rely on those before it.
+    /// The first refusal that applies, with the first condition under it that fails.
     pub fn refusal(&self, request: &Request) -> Option<(u8, Failed)> {
-        let rows: [(u8, fn(&Desk, &Request) -> Clause); 10] = [
-            (3, Desk::row_3),
-            (4, Desk::row_4),
-            (5, Desk::row_5),
-            (6, Desk::row_6),
-            (7, Desk::row_7),
-            (8, Desk::row_8),
-            (9, Desk::row_9),
-            (10, Desk::row_10),
-            (11, Desk::row_11),
-            (12, Desk::row_12),
-        ];
-        rows.iter().find_map(|(n, row)| row(self, request).map(|failed| (*n, failed)))
+        self.refusals(request).next()
+    }
+
+    /// Every refusal that applies, in order. A row may rely on those from 3 to 8 before it: once one of these applies, ask no further.
+    pub fn refusals<'a>(&'a self, request: &'a Request) -> impl Iterator<Item = (u8, Failed)> + 'a {
+        ROWS.iter().filter_map(move |(n, row)| row(self, request).map(|failed| (*n, failed)))
     }
 
     /// Users, scripts, sessions, the room, the level, then what Enrol alone has.
@@ -243,20 +247,38 @@ impl Desk {
         when(places.is_disjoint(&wanted), clause, Record::Draft(v), places, wanted)
     }
 
+    /// The level fails or differs.
     fn row_9(&self, request: &Request) -> Clause {
-        let h = &self.house;
-        let user = |u: u8| (h.user(u).level, h.user(u).c);
-        let script_ = |n: u8| (h.scripts[&n].level, h.scripts[&n].c);
-        let session = |s: u8| (h.sessions[&s].level, h.sessions[&s].c);
-        match *request {
-            OpenRoom { u, level, c, .. } | OpenHouse { u, level, c, .. } | OpenRo { u, level, c, .. } => {
-                covers(Record::User(u), user(u), (level, c))
-            }
-            Read { s, script, .. } => covers(Record::Session(s), session(s), script_(script)),
-            Update { s, script, .. } => equals(Record::Session(s), session(s), script_(script)),
-            Import { script1, script2, .. } => equals(Record::Script(script2), script_(script2), script_(script1)),
-            _ => None,
+        match self.labels(request)? {
+            Cover(record, (held, _), (wanted, _)) => when(held < wanted, "level not covered", record, held, wanted),
+            Equal(record, (held, _), (wanted, _)) => when(held != wanted, "levels differ", record, held, wanted),
         }
+    }
+
+    /// The categories do; the level was asked before.
+    fn row_16(&self, request: &Request) -> Clause {
+        match self.labels(request)? {
+            Cover(record, (_, held), (_, wanted)) => {
+                when(wanted & !held != 0, "categories not covered", record, held, wanted)
+            }
+            Equal(record, (_, held), (_, wanted)) => when(held != wanted, "categories differ", record, held, wanted),
+        }
+    }
+
+    /// What 9 and 16 compare; never the place.
+    fn labels(&self, request: &Request) -> Option<Labels> {
+        let h = &self.house;
+        let script_ = |n: u8| h.scripts[&n].label();
+        let session = |s: u8| h.sessions[&s].label();
+        Some(match *request {
+            OpenRoom { u, level, c, .. } | OpenHouse { u, level, c, .. } | OpenRo { u, level, c, .. } => {
+                Cover(Record::User(u), h.user(u).label(), (level, c))
+            }
+            Read { s, script, .. } => Cover(Record::Session(s), session(s), script_(script)),
+            Update { s, script, .. } => Equal(Record::Session(s), session(s), script_(script)),
+            Import { script1, script2, .. } => Equal(Record::Script(script2), script_(script2), script_(script1)),
+            _ => return None,
+        })
     }
 
     fn row_10(&self, request: &Request) -> Clause {
