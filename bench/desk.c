@@ -192,7 +192,9 @@ static void apply(struct house *h, const uint8_t *f, uint32_t number)
 /* ---- the judge: 0 granted, else the refusal */
 
 static int is_room(unsigned room) { return room >= 1 && room <= 16; }
-static int more(unsigned level, unsigned c, unsigned over, unsigned d) { return level > over || (c & ~d) != 0; }
+/* 9 for the level, 16 for the categories alone */
+static int above(unsigned level, unsigned c, unsigned over, unsigned d) { return level > over ? 9 : c & ~d ? 16 : 0; }
+static int differ(unsigned level, unsigned c, unsigned other, unsigned d) { return level != other ? 9 : c != d ? 16 : 0; }
 
 static int no_users(void)
 {
@@ -249,7 +251,9 @@ static int judge_drafts(const uint8_t *f)
 {
     struct house *h = &current;
     unsigned room = f[0] == 0x09 ? f[8] : f[7];
+    const struct script *one, *two;
     struct draft *d;
+    int refusal;
     if (f[1] > 63 || f[2] > 63 || (f[0] == 0x09 && f[7] > 63) || !is_room(room))
         return 3;
     if (!h->users[f[1]].here || !(h->rooms & bit(room)) || !h->scripts[f[2]].here || (f[0] == 0x09 && !h->scripts[f[7]].here))
@@ -267,11 +271,12 @@ static int judge_drafts(const uint8_t *f)
     case 0x0A:
         return (d->places & bit(room)) && h->scripts[f[2]].origin == 0 ? 0 : 8;
     }
-    if (h->scripts[f[2]].origin != room || h->scripts[f[7]].origin != 0)
+    one = &h->scripts[f[2]];
+    two = &h->scripts[f[7]];
+    if (one->origin != room || two->origin != 0)
         return 8;
-    if (h->scripts[f[2]].level != h->scripts[f[7]].level || h->scripts[f[2]].categories != h->scripts[f[7]].categories)
-        return 9;
-    return h->live < 256 ? 0 : 10;
+    refusal = differ(one->level, one->categories, two->level, two->categories);
+    return refusal ? refusal : h->live < 256 ? 0 : 10;
 }
 
 static int judge_opening(const uint8_t *f)
@@ -289,7 +294,7 @@ static int judge_opening(const uint8_t *f)
         return 7;
     if (f[0] == 0x10 && !(u->rooms & bit(f[3])))
         return 8;
-    return more(label[0], categories_at(label + 1), u->level, u->categories) ? 9 : 0;
+    return above(label[0], categories_at(label + 1), u->level, u->categories);
 }
 
 static int judge_work(const uint8_t *f)
@@ -299,6 +304,7 @@ static int judge_work(const uint8_t *f)
     const struct script *k;
     const struct user *o;
     const struct draft *d;
+    int refusal;
     if (f[1] > 63 || f[2] > 63)
         return 3;
     s = &h->sessions[f[1]];
@@ -319,14 +325,13 @@ static int judge_work(const uint8_t *f)
             return 7;
         if (!(d->places & bit(s->place)))
             return 8;
-        if (s->level != k->level || s->categories != k->categories)
-            return 9;
-        return h->live < 256 ? 0 : 10;
+        refusal = differ(s->level, s->categories, k->level, k->categories);
+        return refusal ? refusal : h->live < 256 ? 0 : 10;
     }
     o = &h->users[s->owner];
     if (s->writes ? !(d->places & bit(s->place)) : !(d->places & o->rooms) && !(o->sort == 0 && (d->places & 1)))
         return 8;
-    return more(k->level, k->categories, s->level, s->categories) ? 9 : 0;
+    return above(k->level, k->categories, s->level, s->categories);
 }
 
 static int judge(const uint8_t *f)
