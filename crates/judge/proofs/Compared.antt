@@ -44,9 +44,10 @@ module _ (f : Parts) where
 
   -- the two lines of labels, and what follows
   two : (by : ℕ → ℕ → Decided) (l c l′ c′ : ℕ) (own : List Line) → Sound (Means f) own → Sound (Means f) (labelLines f by l c l′ c′ ++ own)
-  two by l c l′ c′ own s =
-      ( λ e. record { of-level = λ _. not-false (f .level) e; of-categories = λ z. absurd (omega arith) },
-        λ t. (λ e. record { of-level = λ z. absurd (omega arith); of-categories = λ _. (not-true (f .level) t, not-false (f .categories) e) }, λ _. s) )
+  two by l c l′ c′ own s = (
+    λ e. record { of-level = λ _. not-false (f .level) e; of-categories = λ z. absurd (omega arith) },
+    λ t. (λ e. record { of-level = λ z. absurd (omega arith); of-categories = λ _. (not-true (f .level) t, not-false (f .categories) e) }, λ _. s),
+  )
 
 -- from the first line of labels on
 rest : (h : House) (q : Request) → Sound (Means (compared h q)) (fromLabels (linesOf h q))

@@ -95,33 +95,43 @@ module _ (h : House) where
 
   sound-opens : (u level c : ℕ) → isUser h u ≡ true → Sound (Told h) (opens h u level c)
   unfolding opens
-  sound-opens u level c a =
-      ( λ e. levelAbove u level a (ltb-true (user h u .level) level (not-false _ e)),
-        λ t. (λ e. categoriesMore u level c a (ltb-false (user h u .level) level (not-true _ t)) (not-true _ (not-false _ e)), λ _. tt) )
+  sound-opens u level c a = (
+    λ e. levelAbove u level a (ltb-true (user h u .level) level (not-false _ e)),
+    λ t. (λ e. categoriesMore u level c a (ltb-false (user h u .level) level (not-true _ t)) (not-true _ (not-false _ e)), λ _. tt),
+  )
 
   sound-covers : (s k : ℕ) → isSession h s ≡ true → isScript h k ≡ true → Sound (Told h) (covers h s k)
   unfolding covers
-  sound-covers s k b a =
-      ( λ e. levelUnder s k b a (ltb-true (session h s .level) (script h k .level) (not-false _ e)),
-        λ t. (λ e. categoriesLack s k b a (ltb-false (session h s .level) (script h k .level) (not-true _ t)) (not-true _ (not-false _ e)), λ _. tt) )
+  sound-covers s k b a = (
+    λ e. levelUnder s k b a (ltb-true (session h s .level) (script h k .level) (not-false _ e)),
+    λ t. (λ e. categoriesLack s k b a (ltb-false (session h s .level) (script h k .level) (not-true _ t)) (not-true _ (not-false _ e)), λ _. tt),
+  )
 
   sound-as-script : (s k : ℕ) (own : List Line) → isSession h s ≡ true → isScript h k ≡ true → Sound (Told h) own → Sound (Told h) (asScript h s k ++ own)
   unfolding asScript
   sound-as-script s k own b a rest =
       let x = session h s in
-      let y = script h k in
-      ( λ e. levelOther s k b a (other (x .level) (y .level) (level-differs (x .place) (x .level) (x .categories) (y .origin) (y .level) (y .categories)) e),
-        λ t. (λ e. categoriesOther s k b a (level-alike (x .place) (x .level) (x .categories) (y .origin) (y .level) (y .categories) .says t)
-            (other (x .categories) (y .categories) (categories-differ (x .place) (x .level) (x .categories) (y .origin) (y .level) (y .categories)) e), λ _. rest) )
+      let y = script h k in (
+        λ e. levelOther s k b a (other (x .level) (y .level) (level-differs (x .place) (x .level) (x .categories) (y .origin) (y .level) (y .categories)) e),
+        λ t. (
+          λ e. categoriesOther s k b a (level-alike (x .place) (x .level) (x .categories) (y .origin) (y .level) (y .categories) .says t)
+              (other (x .categories) (y .categories) (categories-differ (x .place) (x .level) (x .categories) (y .origin) (y .level) (y .categories)) e),
+          λ _. rest,
+        ),
+      )
 
   sound-alike : (k₁ k₂ : ℕ) (own : List Line) → isScript h k₁ ≡ true → isScript h k₂ ≡ true → Sound (Told h) own → Sound (Told h) (alike h k₁ k₂ ++ own)
   unfolding alike
   sound-alike k₁ k₂ own s t rest =
       let x = script h k₂ in
-      let y = script h k₁ in
-      ( λ e. levelUnlike k₁ k₂ s t (other (x .level) (y .level) (level-differs (x .origin) (x .level) (x .categories) (y .origin) (y .level) (y .categories)) e),
-        λ f. (λ e. categoriesUnlike k₁ k₂ s t (level-alike (x .origin) (x .level) (x .categories) (y .origin) (y .level) (y .categories) .says f)
-            (other (x .categories) (y .categories) (categories-differ (x .origin) (x .level) (x .categories) (y .origin) (y .level) (y .categories)) e), λ _. rest) )
+      let y = script h k₁ in (
+        λ e. levelUnlike k₁ k₂ s t (other (x .level) (y .level) (level-differs (x .origin) (x .level) (x .categories) (y .origin) (y .level) (y .categories)) e),
+        λ f. (
+          λ e. categoriesUnlike k₁ k₂ s t (level-alike (x .origin) (x .level) (x .categories) (y .origin) (y .level) (y .categories) .says f)
+              (other (x .categories) (y .categories) (categories-differ (x .origin) (x .level) (x .categories) (y .origin) (y .level) (y .categories)) e),
+          λ _. rest,
+        ),
+      )
 
   sound-asked : (s k v : ℕ) (own : List Line) → (isScript h k ≡ true → isSession h s ≡ true → Live h v (draft h k v) → Sound (Told h) own) → Sound (Told h) (draftAsked h s k v ++ own)
   unfolding draftAsked

@@ -1,4 +1,4 @@
-// Both sides of each line of 01's refusal table, for each kind and each refusal from 3 to 10. Standard input has a line a case: a letter for the house,
+// Both sides of each line of 01's refusal table, for each kind and each refusal of the judge. Standard input has a line a case: a letter for the house,
 // the request in hex with its fields apart, and a word. The line written for it has the kind, the word and the ruling: C0 and n added, refused with n; 80,
 // granted; 81, granted with a number; 20, a change may be taken back.
 ghost use Prim.Native.Nat.{_<_};

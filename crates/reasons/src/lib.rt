@@ -129,15 +129,7 @@ fn of_draft(number: u8, fact: bool, id: u32, held: u32, wanted: u32) -> Asked
 }
 
 // Two labels, of which these parts fail or differ: the record holds level and categories, and l and c are wanted. The place never counts.
-fn labels(
-    parts: Parts,
-    kind: u8,
-    id: u8,
-    level: u8,
-    categories: u16,
-    l: u8,
-    c: u16,
-) -> Asked
+fn labels(parts: Parts, kind: u8, id: u8, level: u8, categories: u16, l: u8, c: u16) -> Asked
     ensures { λ r. ⌜ r ≡ asked (labelLines parts (decided kind id) level categories l c) ⌝ }
 {
     if parts.level {
