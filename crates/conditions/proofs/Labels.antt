@@ -1,11 +1,11 @@
 -- The tests of labels and of shared places hold exactly when what they are called does.
-use Prim.Native.Nat.{ℕ, _≤_}
+use Prim.Native.Nat.{ℕ, _-_, _≤_}
 use mathlib.Core.Path.{_≡_, refl, sym, ap, _∙_}
 use mathlib.Core.Bool.{Bool, true, false, not, cond, _&&_, _||_}
 use mathlib.Core.Logic.{_⊎_, inl, inr}
 use native.Mathlib.Omega.{arith}
 use lib.Dec.{eqb}
-use lib.Bits.{bitAnd}
+use lib.Bits.{bitAnd, and-comm, and-le-l}
 use borrow.Author.Tests.{eqb-true, eqb-false, eq-eqb, ne-eqb, ltb-false, le-ltb, not-true, not-false}
 use Rattle.label.specs.declared.Label.the-variants.{At}
 use Rattle.label.specs.declared.Parts.{Parts}
@@ -16,9 +16,9 @@ use Rattle.records.specs.House.{house}
 use Rattle.records.specs.declared.User.{User}
 use Rattle.records.specs.declared.Session.{Session}
 use Rattle.records.specs.declared.Draft.{Draft}
-use Rattle.records.proofs.Places.{has-and, has-none, has-with, has-only, contains-has, has-contains, some-place}
+use Rattle.records.proofs.Places.{has-and, has-less, has-none, has-with, has-only, contains-has, has-contains, some-place}
 use Rattle.conditions.specs.Conditions.{isStaff, isAt, shares, sees, seen}
-use Rattle.conditions.specs.Labels.{Exactly, Covered, Alike, Shared}
+use Rattle.conditions.specs.Labels.{Exactly, Covered, Lacks, Alike, Shared}
 
 clash : {A : Type 0} {b : Bool} → b ≡ true → b ≡ false → A
 clash p q = absurd (let z : _≡_ {A = ℕ} 0 1 = cc in omega arith)
@@ -31,6 +31,13 @@ equal a b = record { says = λ t. eqb-true a b (not-false (eqb a b) (not-true (n
 both : (a b : Bool) → Exactly (a && b) ((a ≡ true) × (b ≡ true))
 both true b = record { says = λ e. (refl, e); shown = λ e. e .1 }
 both false b = record { says = λ e. clash e refl; shown = λ e. e .0 }
+
+-- a set that does not contain another lacks one of it
+lacks : (c c′ : ℕ) → (bitAnd c c′ ≡ c′ → ⊥) → Lacks c c′
+lacks c c′ k =
+    let p = some-place (c′ - bitAnd c′ c) (λ e. k (omega (arith, and-le-l c′ c, and-comm c c′))) in
+    let z = both (has c′ (p .place)) (not (has c (p .place))) .says (sym (has-less c′ c (p .place)) ∙ p .there) in
+    record { category = p .place; wanted = z .0; not-held = not-true (has c (p .place)) (z .1) }
 
 -- ---- 9 and 16, of labels at any two places: the place never counts
 module _ (place level c place′ level′ c′ : ℕ) where
@@ -47,6 +54,13 @@ module _ (place level c place′ level′ c′ : ℕ) where
   categories-covered = record {
     says = λ t. contains-has c c′ (not-false (contains c c′) (not-true (lacking .categories) t));
     shown = λ f. ap (λ (b : Bool). not (not b)) (has-contains c c′ f);
+  }
+
+  -- 02, L1: "one more category": there is one that is wanted and not held
+  pub categories-lacking : Exactly (lacking .categories) (Lacks c c′)
+  categories-lacking = record {
+    says = λ t. lacks c c′ (eqb-false (bitAnd c c′) c′ (not-true (contains c c′) t));
+    shown = λ k. ap not (ne-eqb (bitAnd c c′) c′ (λ e. clash (contains-has c c′ (eq-eqb (bitAnd c c′) c′ e) (k .category) (k .wanted)) (k .not-held)));
   }
 
   pub level-alike : Exactly (not (differing .level)) (level ≡ level′)

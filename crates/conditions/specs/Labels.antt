@@ -1,7 +1,7 @@
 -- What the tests of labels and of shared places say, without tests: refusals 8, 9 and 16 in plain words.
 use Prim.Native.Nat.{ℕ, _≤_}
 use mathlib.Core.Path.{_≡_}
-use mathlib.Core.Bool.{Bool, true}
+use mathlib.Core.Bool.{Bool, true, false}
 use Rattle.records.specs.Places.{has}
 
 -- the test holds exactly when P does
@@ -13,6 +13,12 @@ pub record Exactly (test : Bool) (P : Type 0) : Type 0 where
 pub record Covered (level c level′ c′ : ℕ) : Type 0 where
   pub no-higher : level′ ≤ level
   pub contained : (q : ℕ) → has c′ q ≡ true → has c q ≡ true
+
+-- 16: c lacks a category of c′
+pub record Lacks (c c′ : ℕ) : Type 0 where
+  pub category : ℕ
+  pub wanted : has c′ category ≡ true
+  pub not-held : has c category ≡ false
 
 -- 9 and 16: two labels that do not "differ"
 pub record Alike (level c level′ c′ : ℕ) : Type 0 where

@@ -32,7 +32,7 @@ abbrev pub Sound : (Reason → Type 0) → List Line → Type 0
 Sound P [] = Unit {0}
 Sound P (n unless b because d ∷ ls) = (b ≡ false → P (reason n d)) × (b ≡ true → Sound P ls)
 
-pub of-first : (P : Reason → Type 0) {r : Reason} {ls : List Line} → Sound P ls → FirstFailing r ls → P r
+of-first : (P : Reason → Type 0) {r : Reason} {ls : List Line} → Sound P ls → FirstFailing r ls → P r
 of-first P s (here e q) = rw q (s .0 e)
 of-first P s (later e f) = of-first P (s .1 e) f
 

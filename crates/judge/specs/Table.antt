@@ -1,4 +1,4 @@
--- Which refusals each kind can have from the judge, beside 01's refusal table. 1 and 2 are given before a request is whole, 11 and 12 by whoever keeps
+-- Which refusals each kind can have from the judge, in the order of refusals, beside the table of 01 and 02. 1 and 2 are given before a request is whole, 11 and 12 by whoever keeps
 -- the changes, 13 by the batch.
 use Prim.Native.Nat.{ℕ}
 use mathlib.Core.List.{List, [], _∷_}

@@ -7,7 +7,7 @@ use native.Mathlib.Omega.{arith}
 use lib.Dec.{T, eqb, ltb}
 use lib.Bits.{bitAnd}
 use borrow.Author.Tests.{eq-eqb, ne-eqb, eqb-true, eqb-false, ltb-true, ltb-false, lt-ltb, le-ltb, not-true, not-false}
-use Rattle.label.specs.Labels.{isHigh, isLow, contains, parts, either, nothing, dominates, differs}
+use Rattle.label.specs.Labels.{isHigh, isLow, contains, none, every, either, nothing, dominates, differs}
 use Rattle.label.specs.declared.Parts.{Parts}
 use Rattle.label.specs.declared.Label.{Label}
 use Rattle.label.specs.declared.Label.the-variants.{High, Low, At}
@@ -32,7 +32,7 @@ module _ (p l c q m d : ℕ) where
 abbrev pub anEnd : Label → Bool
 anEnd a = isHigh a || isLow a
 
-pub all-or-nothing : (a b : Label) → T (anEnd a || anEnd b) → (dominates a b ≡ parts true true true) ⊎ (dominates a b ≡ parts false false false)
+pub all-or-nothing : (a b : Label) → T (anEnd a || anEnd b) → (dominates a b ≡ every) ⊎ (dominates a b ≡ none)
 all-or-nothing High b t = inr refl
 all-or-nothing Low High t = inl refl
 all-or-nothing Low Low t = inr refl
@@ -78,13 +78,13 @@ neither false b e = (refl, e)
 module _ (f g : Parts) where
   one-way : T (nothing (either f g)) → T (nothing f)
   one-way t =
-      let none = none-of (f .level || g .level) (f .categories || g .categories) (f .place || g .place) t in
-      rw (neither (f .level) (g .level) (none .0) .0, neither (f .categories) (g .categories) (none .1) .0, neither (f .place) (g .place) (none .2) .0) tt
+      let parts = none-of (f .level || g .level) (f .categories || g .categories) (f .place || g .place) t in
+      rw (neither (f .level) (g .level) (parts .0) .0, neither (f .categories) (g .categories) (parts .1) .0, neither (f .place) (g .place) (parts .2) .0) tt
 
   other-way : T (nothing (either f g)) → T (nothing g)
   other-way t =
-      let none = none-of (f .level || g .level) (f .categories || g .categories) (f .place || g .place) t in
-      rw (neither (f .level) (g .level) (none .0) .1, neither (f .categories) (g .categories) (none .1) .1, neither (f .place) (g .place) (none .2) .1) tt
+      let parts = none-of (f .level || g .level) (f .categories || g .categories) (f .place || g .place) t in
+      rw (neither (f .level) (g .level) (parts .0) .1, neither (f .categories) (g .categories) (parts .1) .1, neither (f .place) (g .place) (parts .2) .1) tt
 
   both-ways : T (nothing f) → T (nothing g) → T (nothing (either f g))
   both-ways s t =

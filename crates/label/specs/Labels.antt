@@ -29,23 +29,29 @@ contains c d = eqb (bitAnd c d) d
 abbrev pub parts : Bool → Bool → Bool → Parts
 parts level categories place = record { level = level; categories = categories; place = place }
 
+abbrev pub none : Parts
+none = parts false false false
+
+abbrev pub every : Parts
+every = parts true true true
+
 abbrev pub either : Parts → Parts → Parts
 either f g = parts (f .level || g .level) (f .categories || g .categories) (f .place || g .place)
 
 abbrev pub nothing : Parts → Bool
 nothing f = not (f .level || f .categories || f .place)
 
--- "the places are equal, A's level is at least B's and A's categories contain B's": of two labels at places each part fails for itself
+-- "the places are equal, A's level is at least B's and A's categories contain B's": of two labels at places each part fails for itself. It is asked of these alone.
 abbrev pub eachPart : Label → Label → Parts
-eachPart High b = parts false false false
-eachPart Low b = parts false false false
-eachPart (At p l c) High = parts false false false
-eachPart (At p l c) Low = parts false false false
+eachPart High b = none
+eachPart Low b = none
+eachPart (At p l c) High = none
+eachPart (At p l c) Low = none
 eachPart (At p l c) (At q m d) = parts (ltb l m) (not (contains c d)) (not (eqb p q))
 
 -- "A dominates B when A is SysHigh, or B is SysLow, or .." L1: "Where it fails and A is SysLow or B SysHigh, all three fail."
 abbrev pub dominates : Label → Label → Parts
-dominates a b = cond (isHigh a || isLow b) (parts false false false) (cond (isLow a || isHigh b) (parts true true true) (eachPart a b))
+dominates a b = cond (isHigh a || isLow b) none (cond (isLow a || isHigh b) every (eachPart a b))
 
 -- "A dominates B": nothing fails
 abbrev pub Dominates : Label → Label → Type 0

@@ -1,14 +1,14 @@
 -- What an answer to some lines says: that all hold, or the reason of the first that fails, whose number is the lowest that applies, by the order of refusals.
 use Prim.Native.Nat.{ℕ, suc, _≤_}
 use mathlib.Core.Path.{_≡_, refl, sym, ap, _∙_}
-use mathlib.Core.Bool.{Bool, true, false, cond, _&&_, _||_}
+use mathlib.Core.Bool.{Bool, true, false, not, cond, _&&_, _||_}
 use mathlib.Core.List.{List, [], _∷_}
 use native.Mathlib.Omega.{arith}
 use lib.Dec.{eqb, leb}
-use borrow.Author.Tests.{leb-true, le-leb, eqb-true}
+use borrow.Author.Tests.{leb-true, le-leb, eqb-true, eq-eqb}
 use Rattle.records.specs.Lists.{all, any}
 use Rattle.reasons.specs.Reasons.{reason, zeros}
-use Rattle.reasons.specs.Asking.{Line, _unless_, _because_, asked, told, AllHold, none, more, FirstFailing, here, later, Failing, this, that, numbers, onceAfter}
+use Rattle.reasons.specs.Asking.{Line, _unless_, _because_, asked, told, AllHold, none, more, FirstFailing, here, later, Failing, this, that, applies, numbers, onceAfter}
 use Rattle.reasons.specs.Order.{order, isRefusal, before, rank, ascendFrom}
 use Rattle.reasons.specs.declared.Reason.{Reason}
 use Rattle.reasons.specs.declared.Asked.the-variants.{Holds, Fails}
@@ -110,6 +110,30 @@ one-rank m n = one-before m n order
 pub holds-at : (p : ℕ → Bool) {r : Reason} {ls : List Line} → all p (numbers ls) ≡ true → FirstFailing r ls → p (r .number) ≡ true
 holds-at p a (here {n} {b} {d} {ls} e q) = rw q (split (p n) (all p (numbers ls)) a .0)
 holds-at p a (later {n} {b} {d} {ls} e f) = holds-at p (split (p n) (all p (numbers ls)) a .1) f
+
+-- the first that fails is one that fails
+pub failing : {r : Reason} {ls : List Line} → FirstFailing r ls → Failing (r .number) ls
+failing (here e q) = rw q (this e)
+failing (later e f) = that (failing f)
+
+-- ---- a number applies exactly where a line of it fails
+module _ (n : ℕ) where
+  pub applies-failing : (ls : List Line) → applies n ls ≡ true → Failing n ls
+  applies-failing [] e = absurd (let z : _≡_ {A = ℕ} 0 1 = cc in omega arith)
+  applies-failing (m unless b because d ∷ ls) e = go (eqb n m) refl b refl e (applies-failing ls)
+    where
+      go : (s : Bool) → eqb n m ≡ s → (t : Bool) → b ≡ t → ((s && not t) || applies n ls) ≡ true → (applies n ls ≡ true → Failing n ls) → Failing n (m unless b because d ∷ ls)
+      go true p false q e next = rw (← eqb-true n m p) (this q)
+      go true p true q e next = that (next e)
+      go false p t q e next = that (next e)
+
+  pub failing-applies : {ls : List Line} → Failing n ls → applies n ls ≡ true
+  failing-applies (this {b} {d} {ls} e) = rw (eq-eqb n n refl, e)
+  failing-applies (that {m} {b} {d} {ls} f) = go (eqb n m && not b) (failing-applies f)
+    where
+      go : (t : Bool) → applies n ls ≡ true → (t || applies n ls) ≡ true
+      go true e = refl
+      go false e = e
 
 -- ---- "a grant is explained exactly when all conditions hold": 0 is no refusal's, and so a grant's alone
 pub zeros-if-all : {ls : List Line} → AllHold ls → told (asked ls) ≡ zeros

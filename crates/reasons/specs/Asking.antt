@@ -1,7 +1,7 @@
 -- Lines asked in their order. 01: "a fact that can't be asked because an earlier one failed doesn't count."
 use Prim.Native.Nat.{ℕ}
 use mathlib.Core.Path.{_≡_}
-use mathlib.Core.Bool.{Bool, true, false, cond}
+use mathlib.Core.Bool.{Bool, true, false, not, cond, _&&_, _||_}
 use mathlib.Core.List.{List, [], _∷_}
 use lib.Dec.{eqb}
 use Rattle.reasons.specs.Reasons.{Decided, reason, zeros}
@@ -48,6 +48,11 @@ pub data FirstFailing (r : Reason) : List Line → Type 0 where
 pub data Failing (n : ℕ) : List Line → Type 0 where
   this : {b : Bool} {d : Decided} {ls : List Line} → b ≡ false → Failing n (n unless b because d ∷ ls)
   that : {m : ℕ} {b : Bool} {d : Decided} {ls : List Line} → Failing n ls → Failing n (m unless b because d ∷ ls)
+
+-- n applies: that there is one, as a test
+abbrev pub applies : ℕ → List Line → Bool
+applies n [] = false
+applies n (m unless b because d ∷ ls) = (eqb n m && not b) || applies n ls
 
 -- the lines' numbers
 abbrev pub numbers : List Line → List ℕ
