@@ -1,5 +1,5 @@
--- Which refusals each kind can have from the judge, in the order of refusals, beside the table of 01 and 02. 1 and 2 are given before a request is whole, 11 and 12 by whoever keeps
--- the changes, 13 by the batch.
+-- Which refusals each kind can have from the judge, in the order of refusals, beside the tables of 01 and 02. 1 and 2 are given before a request is whole, 11
+-- and 12 by whoever keeps the changes, 13 by the batch.
 use Prim.Native.Nat.{ℕ}
 use mathlib.Core.List.{List, [], _∷_}
 use Rattle.request.specs.declared.Request.{Request}
