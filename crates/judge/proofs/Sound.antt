@@ -97,7 +97,7 @@ module _ (h : House) where
   unfolding opens
   sound-opens u level c a = (
     λ e. levelAbove u level a (ltb-true (user h u .level) level (not-false _ e)),
-    λ t. (λ e. categoriesMore u level c a (ltb-false (user h u .level) level (not-true _ t)) (not-true _ (not-false _ e)), λ _. tt),
+    λ t. (λ e. categoriesMore u c a (not-true _ (not-false _ e)), λ _. tt),
   )
 
   sound-covers : (s k : ℕ) → isSession h s ≡ true → isScript h k ≡ true → Sound (Told h) (covers h s k)

@@ -68,9 +68,8 @@ pub data Told (h : House) : Reason → Type 0 where
       → Told h (reason 9 (aSession s (session h s .level) (script h k .level)))
   levelUnlike : (k₁ k₂ : ℕ) → isScript h k₁ ≡ true → isScript h k₂ ≡ true → eqb (script h k₂ .level) (script h k₁ .level) ≡ false
       → Told h (reason 9 (aScript k₂ (script h k₂ .level) (script h k₁ .level)))
-  -- 16: the level is as it should be
-  categoriesMore : (u level c : ℕ) → isUser h u ≡ true → level ≤ user h u .level → contains (user h u .categories) c ≡ false
-      → Told h (reason 16 (aUser u (user h u .categories) c))
+  -- 16: where both levels stand in the records, they are as they should be
+  categoriesMore : (u c : ℕ) → isUser h u ≡ true → contains (user h u .categories) c ≡ false → Told h (reason 16 (aUser u (user h u .categories) c))
   categoriesLack : (s k : ℕ) → isSession h s ≡ true → isScript h k ≡ true → script h k .level ≤ session h s .level
       → contains (session h s .categories) (script h k .categories) ≡ false
       → Told h (reason 16 (aSession s (session h s .categories) (script h k .categories)))
