@@ -26,6 +26,15 @@ pub holds : (n : ℕ) {b : Bool} (d : Decided) → b ≡ true → Holds ≡ aske
 unfolding asked
 holds n d e = rw e
 
+-- ---- several lines: the first fails, or what follows it is asked
+pub fails-first : (n : ℕ) {b : Bool} (d : Decided) (ls : List Line) → b ≡ false → asked (n unless false because d ∷ []) ≡ asked (n unless b because d ∷ ls)
+unfolding asked
+fails-first n d ls e = rw e
+
+pub holds-first : (n : ℕ) {b : Bool} (d : Decided) (ls : List Line) → b ≡ true → asked ls ≡ asked (n unless b because d ∷ ls)
+unfolding asked
+holds-first n d ls e = rw e
+
 -- ---- where one before has failed, that is the answer; where all before hold, the answer is what comes next
 pub stays : {a : Asked} {x : Reason} (b : Asked) → a ≡ Fails x → a ≡ both a b
 stays b e = rw e

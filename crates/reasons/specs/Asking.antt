@@ -49,7 +49,7 @@ pub data Failing (n : ℕ) : List Line → Type 0 where
   this : {b : Bool} {d : Decided} {ls : List Line} → b ≡ false → Failing n (n unless b because d ∷ ls)
   that : {m : ℕ} {b : Bool} {d : Decided} {ls : List Line} → Failing n ls → Failing n (m unless b because d ∷ ls)
 
--- n applies: that there is one, as a test
+-- 01: "n that applies": that there is such a line, as a test
 abbrev pub applies : ℕ → List Line → Bool
 applies n [] = false
 applies n (m unless b because d ∷ ls) = (eqb n m && not b) || applies n ls
