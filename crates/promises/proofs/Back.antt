@@ -19,7 +19,7 @@ use Rattle.promises.specs.Book.{blank}
 use Rattle.promises.specs.Events.{reachedDesk}
 use Rattle.promises.specs.Grants.{grants}
 use Rattle.promises.specs.Back.{IsRead, is-read, IsTakeBack, is-take-back, IsChange, numberIn, TakenBack, BothBack, Idle, refused, reads, EachAnswered, nextDesk, atLast, ThenBack, AsItStood}
-use Rattle.promises.proofs.Bools.{clash}
+use Rattle.rules.proofs.Bools.{clash}
 use Rattle.promises.proofs.Agrees.{opened-agrees}
 use Rattle.promises.proofs.Runs.{run-agrees}
 use Rattle.promises.proofs.Ways.{Way, by-rule, no-number, no-change, read, plain, with-number, back, way}

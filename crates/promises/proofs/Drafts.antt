@@ -9,8 +9,8 @@ use Rattle.records.specs.Lists.{filter}
 use Rattle.records.specs.House.{noScript, noDraft}
 use Rattle.records.specs.declared.Script.{Script}
 use Rattle.records.specs.declared.Draft.{Draft}
-use Rattle.promises.specs.Facts.{Among, Filed, Ascending, Texts}
-use Rattle.promises.proofs.Lists.{each-imp}
+use Rattle.rules.specs.Facts.{Among, Filed, Ascending, Texts}
+use Rattle.rules.proofs.Lists.{each-imp}
 use Rattle.promises.proofs.Parts.{place-move}
 
 -- ---- more rooms

@@ -11,7 +11,7 @@ use Rattle.history.specs.Machine.{Desk, Outcome, step}
 use Rattle.history.specs.Desk.{deskRules}
 use Rattle.history.specs.declared.Answer.{Answer}
 use Rattle.promises.specs.Grants.{grants, Allowed, GrantedExactly, grantAfter}
-use Rattle.promises.proofs.Bools.{clash}
+use Rattle.rules.proofs.Bools.{clash}
 use Rattle.promises.proofs.Ways.{Way, by-rule, no-number, no-change, read, plain, with-number, back, way}
 
 module _ (d : Desk House Change) (q : Request) where

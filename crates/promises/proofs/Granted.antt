@@ -11,7 +11,7 @@ use Rattle.judge.specs.declared.Ruling.{Ruling}
 use Rattle.judge.specs.declared.Ruling.the-variants.{Refused, Pass, Keep, KeepNumbered, TakeBack}
 use Rattle.judge.specs.Kinds.{linesOf, grantOf, rulingOf}
 use Rattle.judge.proofs.Order.{all-granted, first-refused}
-use Rattle.promises.proofs.Bools.{clash}
+use Rattle.rules.proofs.Bools.{clash}
 
 -- the fact of line k; the first is line 0
 abbrev pub factAt : List Line → ℕ → Bool

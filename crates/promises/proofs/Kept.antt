@@ -21,12 +21,12 @@ use Rattle.conditions.specs.Conditions.{noUsers, isUser, isStaff, opening}
 use Rattle.conditions.specs.Labels.{Covered}
 use Rattle.reasons.specs.Shared.{pairNumbers, pairLed, draftLed, opens, covers, asScript, alike, draftAsked}
 use Rattle.judge.specs.Kinds.{enrolWhere, establishLines, importLines, disbandLines, createLines, killLines, linesOf, grantOf, rulingOf}
-use Rattle.promises.specs.Rules.{rules}
-use Rattle.promises.specs.Facts.{RoomNumber, LabelFits, Administered, Rules}
+use Rattle.rules.specs.Rules.{rules}
+use Rattle.rules.specs.Facts.{RoomNumber, LabelFits, Administered, Rules}
 use Rattle.promises.specs.Fits.{bytes, twoBytes, fits}
-use Rattle.promises.proofs.Empty.{empty-meets}
-use Rattle.promises.proofs.Bools.{clash, right, itself, equal, _and_, _then_}
-use Rattle.promises.proofs.Meaning.{rules-are}
+use Rattle.rules.proofs.Empty.{empty-meets}
+use Rattle.rules.proofs.Bools.{clash, right, itself, equal, _and_, _then_}
+use Rattle.rules.proofs.Meaning.{rules-are}
 use Rattle.promises.proofs.Granted.{Hold, conditions}
 use Rattle.promises.proofs.Drafts.{ascending-later}
 use Rattle.promises.proofs.Users.{enrol, establish, join-staff, join-outsider, leave}

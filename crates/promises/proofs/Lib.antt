@@ -1,10 +1,5 @@
 -- The promises: Demands (2 and 3), Exactly and Listed (grants and refusals), Back and Seen (take-backs, numbers), Reached (the record rules), Determined
 -- (contracts), and the laws that they take.
-pub mod Bools
-pub mod Lists
-pub mod Sets
-pub mod Empty
-pub mod Meaning
 pub mod Granted
 pub mod Parts
 pub mod Drafts

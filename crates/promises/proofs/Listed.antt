@@ -18,9 +18,9 @@ use Rattle.judge.proofs.Order.{refused-by-table, row-ascends}
 use Rattle.history.specs.Machine.{Desk, Outcome, step, answers}
 use Rattle.history.specs.Desk.{deskRules}
 use Rattle.history.specs.declared.Answer.the-variants.{Granted, Refused}
-use Rattle.promises.specs.Lists.{Each}
+use Rattle.rules.specs.Lists.{Each}
 use Rattle.promises.specs.Grants.{Listed, in-row, no-number, no-change, Refusal, ToRequest}
-use Rattle.promises.proofs.Bools.{clash, left, right}
+use Rattle.rules.proofs.Bools.{clash, left, right}
 use Rattle.promises.proofs.Ways.{Way, by-rule, read, plain, with-number, back, way}
 
 of-all : (p : ℕ → Bool) (n : ℕ) (l : List ℕ) → any (eqb n) l ≡ true → all p l ≡ true → p n ≡ true

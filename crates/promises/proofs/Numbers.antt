@@ -7,9 +7,9 @@ use native.Mathlib.Omega.{arith}
 use lib.ListN.{length, getD}
 use Rattle.records.specs.House.{House, noDraft, draftAt}
 use Rattle.records.specs.declared.Draft.{Draft}
-use Rattle.promises.specs.Rules.{rules}
-use Rattle.promises.specs.Facts.{Ascending, Between}
-use Rattle.promises.proofs.Meaning.{rules-are}
+use Rattle.rules.specs.Rules.{rules}
+use Rattle.rules.specs.Facts.{Ascending, Between}
+use Rattle.rules.proofs.Meaning.{rules-are}
 
 between : (n last : ℕ) (l : List Draft) → Ascending n last l → (i : ℕ) → i < length l → Between n (getD l i noDraft .number) last
 between n last [] a i h = absurd (omega arith)

@@ -12,13 +12,11 @@ use Rattle.records.specs.House.{noUser, noSession, house, staff}
 use Rattle.records.specs.declared.User.{User}
 use Rattle.records.specs.declared.Session.{Session}
 use Rattle.effects.specs.Elements.{withRooms}
-use Rattle.promises.specs.Facts.{Among, LabelFits, Place, UserFine, Administered, Led, Writing, SessionFine, Seated, Seats}
-use Rattle.promises.proofs.Bools.{clash}
-use Rattle.promises.proofs.Lists.{at-set, at-map}
-use Rattle.promises.proofs.Sets.{with-new, with-old, with-other, room-number}
-
-pub zero-fits : LabelFits 0 0
-zero-fits = record { level-fits = omega arith; categories-fit = omega arith }
+use Rattle.rules.specs.Facts.{Among, LabelFits, Place, UserFine, Administered, Led, Writing, SessionFine, Seated, Seats}
+use Rattle.rules.proofs.Bools.{clash}
+use Rattle.rules.proofs.Lists.{at-set, at-map}
+use Rattle.rules.proofs.Sets.{with-new, with-old, with-other, room-number}
+use Rattle.rules.proofs.Meaning.{zero-fits}
 
 -- ---- places
 pub place-house : (rooms : ℕ) → Place rooms house

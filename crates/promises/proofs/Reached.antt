@@ -17,11 +17,11 @@ use Rattle.judge.proofs.Order.{granted-exactly}
 use Rattle.counter.specs.Numbers.{top}
 use Rattle.history.specs.Machine.{Desk, Outcome, opened, keepChange, step, run}
 use Rattle.history.specs.Desk.{changeOf, deskRules}
-use Rattle.promises.specs.Rules.{rules}
+use Rattle.rules.specs.Rules.{rules}
 use Rattle.promises.specs.Events.{reachedDesk}
 use Rattle.promises.specs.Fits.{fits}
-use Rattle.promises.proofs.Bools.{left, right}
-use Rattle.promises.proofs.Meaning.{rules-are}
+use Rattle.rules.proofs.Bools.{left, right}
+use Rattle.rules.proofs.Meaning.{rules-are}
 use Rattle.promises.proofs.Kept.{empty, kept, kept-numbered, later}
 use Rattle.promises.proofs.Past.{last-after, Sound, sound-opened, now-holds, sound-keep, sound-back}
 use Rattle.promises.proofs.Ways.{Way, by-rule, no-number, no-change, read, plain, with-number, back, way}

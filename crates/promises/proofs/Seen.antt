@@ -24,11 +24,11 @@ use Rattle.history.specs.Machine.{Desk, Outcome, opened, keepChange, step, run,
 use Rattle.history.specs.Desk.{changeOf, deskRules}
 use Rattle.history.specs.declared.Answer.{Answer}
 use Rattle.history.specs.declared.Answer.the-variants.{Granted, Numbered, Refused}
-use Rattle.promises.specs.Lists.{Each}
+use Rattle.rules.specs.Lists.{Each}
 use Rattle.promises.specs.Book.{numbers, Rising}
 use Rattle.promises.specs.Events.{answersFrom}
 use Rattle.promises.specs.Seen.{Makes, by-import, by-update, by-create, requestNo, answerAt, moment, MadeAt, MadeBefore, SameText}
-use Rattle.promises.proofs.Lists.{each-imp, each-at, each-anew, each-map, each-keep, each-more, each-take}
+use Rattle.rules.proofs.Lists.{each-imp, each-at, each-anew, each-map, each-keep, each-more, each-take}
 use Rattle.promises.proofs.Past.{Sound, sound-opened, now-holds, sound-more, sound-keep, sound-back}
 use Rattle.promises.proofs.Demands.{rising}
 use Rattle.promises.proofs.Ways.{Way, by-rule, no-number, no-change, read, plain, with-number, back, way}

@@ -10,9 +10,9 @@ use Rattle.records.specs.declared.Session.{Session}
 use Rattle.records.proofs.Places.{has-contains}
 use Rattle.effects.specs.Elements.{writing, reading}
 use Rattle.conditions.specs.Labels.{Covered}
-use Rattle.promises.specs.Facts.{LabelFits, Writing, Seated, Rules}
-use Rattle.promises.proofs.Bools.{clash}
-use Rattle.promises.proofs.Lists.{at-set}
+use Rattle.rules.specs.Facts.{LabelFits, Writing, Seated, Rules}
+use Rattle.rules.proofs.Bools.{clash}
+use Rattle.rules.proofs.Lists.{at-set}
 use Rattle.promises.proofs.Parts.{place-house, place-room, none-seated}
 
 module _ (h : House) (last : ℕ) (R : Rules h last) (x : ℕ) (small : x < 64) where

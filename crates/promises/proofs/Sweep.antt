@@ -19,12 +19,12 @@ use Rattle.records.specs.declared.Found.the-variants.{At, Nothing}
 use Rattle.records.proofs.Places.{without-zero, without-only}
 use Rattle.effects.specs.Elements.{parted, closes, shuts, shut, unplaced}
 use Rattle.effects.specs.Effects.{sweptDrafts, deserted, sweptScripts, swept, lessOne, removed, disbanded}
-use Rattle.promises.specs.Facts.{RoomNumber, UserFine, People, SessionFine, Seated, HousePlaces, with-house, one-room, DraftFine, Filed, ScriptFine, Ascending, Texts, Rules}
-use Rattle.promises.specs.Lists.{Each}
-use Rattle.promises.proofs.Bools.{clash}
-use Rattle.promises.proofs.Lists.{at-map, at-places, length-mapFrom, each-imp, each-both, each-set, each-map, each-keep, each-any, length-keep}
-use Rattle.promises.proofs.Sets.{without-other, without-old, without-among, both-without, without-from-only}
-use Rattle.promises.proofs.Parts.{zero-fits}
+use Rattle.rules.specs.Facts.{RoomNumber, UserFine, People, SessionFine, Seated, HousePlaces, with-house, one-room, DraftFine, Filed, ScriptFine, Ascending, Texts, Rules}
+use Rattle.rules.specs.Lists.{Each}
+use Rattle.rules.proofs.Bools.{clash}
+use Rattle.rules.proofs.Lists.{at-map, at-places, length-mapFrom, each-imp, each-both, each-set, each-map, each-keep, each-any, length-keep}
+use Rattle.rules.proofs.Sets.{without-other, without-old, without-among, both-without, without-from-only}
+use Rattle.rules.proofs.Meaning.{zero-fits}
 use Rattle.promises.proofs.Parts.{place-move, led-move, admin-move, stays, session-stays, seats-end}
 use Rattle.promises.proofs.Drafts.{ascending-keep, ascending-map, ascending-set}
 use Rattle.promises.proofs.Texts.{small-origin, draft-at, put-draft}

@@ -21,11 +21,11 @@ use Rattle.records.specs.declared.Found.the-variants.{At, Nothing}
 use Rattle.records.proofs.Lookups.{found-draft, found-is, found-below, no-draft}
 use Rattle.effects.specs.Elements.{createdBy, draftOf, placedAt}
 use Rattle.effects.specs.Effects.{onDraft}
-use Rattle.promises.specs.Facts.{Among, Place, HousePlaces, with-house, one-room, DraftFine, Filed, ScriptFine, Texts, Rules}
-use Rattle.promises.specs.Lists.{Each}
-use Rattle.promises.proofs.Bools.{clash, right}
-use Rattle.promises.proofs.Lists.{at-set, each-imp, each-at, each-set, each-more, any-more, any-last, any-set}
-use Rattle.promises.proofs.Sets.{some, with-new, with-old, with-among, only-itself, only-one, room-number}
+use Rattle.rules.specs.Facts.{Among, Place, HousePlaces, with-house, one-room, DraftFine, Filed, ScriptFine, Texts, Rules}
+use Rattle.rules.specs.Lists.{Each}
+use Rattle.rules.proofs.Bools.{clash, right}
+use Rattle.rules.proofs.Lists.{at-set, each-imp, each-at, each-set, each-more, any-more, any-last, any-set}
+use Rattle.rules.proofs.Sets.{some, with-new, with-old, with-among, only-itself, only-one, room-number}
 use Rattle.promises.proofs.Parts.{place-house, place-room, place-cases, place-small}
 use Rattle.promises.proofs.Drafts.{ascending-set, ascending-more}
 

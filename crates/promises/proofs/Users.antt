@@ -16,10 +16,10 @@ use Rattle.records.specs.declared.Session.{Session}
 use Rattle.records.proofs.Places.{has-none, without-zero}
 use Rattle.effects.specs.Elements.{enrolled, leading, joined, left, hired, endsFor}
 use Rattle.effects.specs.Effects.{departed}
-use Rattle.promises.specs.Facts.{Among, RoomNumber, LabelFits, UserFine, Administered, Led, People, Writing, SessionFine, Seated, Rules}
-use Rattle.promises.proofs.Bools.{clash}
-use Rattle.promises.proofs.Lists.{at-set}
-use Rattle.promises.proofs.Sets.{some, with-new, with-old, with-other, with-among, without-other, without-among, number-room}
+use Rattle.rules.specs.Facts.{Among, RoomNumber, LabelFits, UserFine, Administered, Led, People, Writing, SessionFine, Seated, Rules}
+use Rattle.rules.proofs.Bools.{clash}
+use Rattle.rules.proofs.Lists.{at-set}
+use Rattle.rules.proofs.Sets.{some, with-new, with-old, with-other, with-among, without-other, without-among, number-room}
 use Rattle.promises.proofs.Parts.{led-move, admin-move, user-more, Stays, stays, session-stays, seats-more, seated-put, seats-put, seats-end}
 use Rattle.promises.proofs.Drafts.{texts-more}
 

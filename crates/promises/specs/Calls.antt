@@ -16,12 +16,12 @@ use Rattle.history.specs.Desk.{deskRules}
 use Rattle.history.specs.declared.Answer.{Answer}
 use Rattle.batch.specs.Batch.{State, taken, Batched}
 use Rattle.batch.specs.declared.Ran.{Ran}
-use Rattle.promises.specs.Lists.{Each}
+use Rattle.rules.specs.Lists.{Each}
 use Rattle.promises.specs.Book.{blank, bookAfter, numbers, Rising, events, survive}
 use Rattle.promises.specs.Events.{eventOf, answersFrom, keptNow}
 use Rattle.promises.specs.Back.{IsChange, TakenBack, ThenBack, AsItStood, atLast}
 use Rattle.promises.specs.Seen.{answerAt, moment, MadeBefore}
-use Rattle.promises.specs.Rules.{rules}
+use Rattle.rules.specs.Rules.{rules}
 
 -- a call of the batch: what it was lent, what it returned and how it left the answer buffer
 pub record Call : Type 0 where

@@ -1,11 +1,8 @@
 -- What the promises are stated with.
-pub mod Lists
 pub mod Fits
 pub mod Book
 pub mod Events
 pub mod Grants
 pub mod Back
 pub mod Seen
-pub mod Rules
-pub mod Facts
 pub mod Calls

@@ -1,6 +1,7 @@
 -- Sets of rooms and places. 01: "a set of rooms or places 32 bits, with place p as bit p".
 use Prim.Native.Nat.{ℕ, _-_, _/_, _%_, _^_}
 use mathlib.Core.Bool.{Bool, cond}
+use mathlib.Core.List.{List, [], _∷_}
 use lib.Dec.{eqb, ltb}
 use lib.Bits.{bitAnd, bitOr}
 
@@ -18,3 +19,7 @@ without s p = cond (ltb 31 p) s (s - bitAnd s (2 ^ p))
 -- p and no other
 abbrev pub only : ℕ → ℕ
 only p = with 0 p
+
+-- "Rooms 1..16."
+abbrev pub roomNumbers : List ℕ
+roomNumbers = 1 ∷ 2 ∷ 3 ∷ 4 ∷ 5 ∷ 6 ∷ 7 ∷ 8 ∷ 9 ∷ 10 ∷ 11 ∷ 12 ∷ 13 ∷ 14 ∷ 15 ∷ 16 ∷ []

@@ -6,7 +6,7 @@ use lib.Dec.{eqb, leb, ltb}
 use lib.ListN.{length}
 use Rattle.records.specs.Lists.{any, all, allFrom, count}
 use Rattle.label.specs.Labels.{contains}
-use Rattle.records.specs.Places.{has, with, only}
+use Rattle.records.specs.Places.{has, with, only, roomNumbers}
 use Rattle.records.specs.House.{House, house, noPlace, staff, outsider, user, script}
 use Rattle.records.specs.Lookups.{ofScript, placed}
 use Rattle.records.specs.declared.User.{User}
@@ -17,10 +17,6 @@ use Rattle.records.specs.declared.Draft.{Draft}
 infixr 40 _implies_
 abbrev pub _implies_ : Bool → Bool → Bool
 a implies b = not a || b
-
--- "Rooms 1..16."
-abbrev pub roomNumbers : List ℕ
-roomNumbers = 1 ∷ 2 ∷ 3 ∷ 4 ∷ 5 ∷ 6 ∷ 7 ∷ 8 ∷ 9 ∷ 10 ∷ 11 ∷ 12 ∷ 13 ∷ 14 ∷ 15 ∷ 16 ∷ []
 
 -- the house, or a room that exists
 abbrev pub isPlace : House → ℕ → Bool

@@ -10,14 +10,13 @@ use lib.Dec.{eqb}
 use lib.Pow.{pow-mono}
 use borrow.Author.Tests.{eqb-true, eq-eqb, ne-eqb}
 use Rattle.label.specs.Labels.{contains}
-use Rattle.records.specs.Places.{has, with, without, only}
+use Rattle.records.specs.Places.{has, with, without, only, roomNumbers}
 use Rattle.records.specs.Lists.{any, all}
 use Rattle.records.proofs.Places.{has-same, has-none, has-with, has-without, has-only, without-only, contains-has, has-contains}
-use Rattle.promises.specs.Rules.{roomNumbers}
-use Rattle.promises.specs.Lists.{Each}
-use Rattle.promises.specs.Facts.{Is, Among, RoomNumber, SomeRoom}
-use Rattle.promises.proofs.Bools.{clash, said, itself}
-use Rattle.promises.proofs.Lists.{each-is, any-one, any-none}
+use Rattle.rules.specs.Lists.{Each}
+use Rattle.rules.specs.Facts.{Is, Among, RoomNumber, SomeRoom}
+use Rattle.rules.proofs.Bools.{clash, said, itself}
+use Rattle.rules.proofs.Lists.{each-is, any-one, any-none}
 
 pub among : (s t : ℕ) → Is (contains t s) (Among s t)
 among s t = record { says = contains-has t s; shown = has-contains t s }

@@ -10,7 +10,7 @@ use borrow.Author.Tests.{ne-eqb}
 use lib.ListN.{length}
 use Rattle.label.specs.Labels.{contains}
 use Rattle.records.specs.Lists.{any, all}
-use Rattle.records.specs.Places.{has, with, only}
+use Rattle.records.specs.Places.{has, with, only, roomNumbers}
 use Rattle.records.specs.House.{House, noUser, noScript, noSession, house, noPlace, staff, outsider, user, script, session}
 use Rattle.records.specs.Lookups.{ofScript}
 use Rattle.records.specs.declared.User.{User}
@@ -18,13 +18,15 @@ use Rattle.records.specs.declared.Script.{Script}
 use Rattle.records.specs.declared.Session.{Session}
 use Rattle.records.specs.declared.Draft.{Draft}
 use Rattle.records.proofs.Places.{has-none, has-with}
-use Rattle.promises.specs.Rules.{_implies_, roomNumbers, isPlace, places, roomsThere, sessionThere, originThere, draftThere, administered, staffIfTrusted, ledByOne, bareIfOutsider, ownedWell, inItsRoom, atHomeOrOneRoom, hasDraft, ascending, labelFits, userFits, scriptFits, sessionFits, bounded, namedThere, rules}
-use Rattle.promises.specs.Facts.{Is, Among, RoomNumber, SomeRoom, LabelFits, Place, Bare, Administered, Led, HousePlaces, with-house, one-room, Filed, Ascending, Rules}
-use Rattle.promises.specs.Lists.{Each}
-use Rattle.promises.proofs.Bools.{clash, second, left, right, itself, fails, equal, unequal, less, atMost, said, _and_, _else_, _then_}
-use Rattle.promises.proofs.Lists.{each-imp, each-both, each-is, everywhere, places-are, Somewhere, somewhere, once}
-use Rattle.promises.proofs.Sets.{among, room-number, rooms-all, rooms-any}
-use Rattle.promises.proofs.Parts.{zero-fits}
+use Rattle.rules.specs.Rules.{_implies_, isPlace, places, roomsThere, sessionThere, originThere, draftThere, administered, staffIfTrusted, ledByOne, bareIfOutsider, ownedWell, inItsRoom, atHomeOrOneRoom, hasDraft, ascending, labelFits, userFits, scriptFits, sessionFits, bounded, namedThere, rules}
+use Rattle.rules.specs.Facts.{Is, Among, RoomNumber, SomeRoom, LabelFits, Place, Bare, Administered, Led, HousePlaces, with-house, one-room, Filed, Ascending, Rules}
+use Rattle.rules.specs.Lists.{Each}
+use Rattle.rules.proofs.Bools.{clash, second, left, right, itself, fails, equal, unequal, less, atMost, said, _and_, _else_, _then_}
+use Rattle.rules.proofs.Lists.{each-imp, each-both, each-is, everywhere, places-are, Somewhere, somewhere, once}
+use Rattle.rules.proofs.Sets.{among, room-number, rooms-all, rooms-any}
+
+pub zero-fits : LabelFits 0 0
+zero-fits = record { level-fits = omega arith; categories-fit = omega arith }
 
 label-is : (level c : ℕ) → Is (labelFits level c) (LabelFits level c)
 label-is level c = said (atMost and less) (λ p. record { level-fits = p .0; categories-fit = p .1 }) (λ f. (f .level-fits, f .categories-fit))

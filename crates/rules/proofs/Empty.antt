@@ -5,7 +5,7 @@ use Prim.Native.Nat.{ℕ, _≤_}
 use borrow.Author.Tests.{le-leb}
 use Rattle.records.specs.House.{emptyHouse}
 use Rattle.records.specs.Places.{has, with}
-use Rattle.promises.specs.Rules.{rules}
+use Rattle.rules.specs.Rules.{rules}
 
 pub empty-meets : (last : ℕ) → last ≤ 4294967295 → rules emptyHouse last ≡ true
 unfolding rules emptyHouse has with

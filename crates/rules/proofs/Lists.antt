@@ -10,9 +10,9 @@ use lib.Dec.{eqb}
 use lib.ListN.{length, take, getD, set, List·getD-map}
 use lib.Seq.{getD-set-same, getD-set-other}
 use Rattle.records.specs.Lists.{any, all, allFrom, count, filter, mapFrom}
-use Rattle.promises.specs.Lists.{Each, Once}
-use Rattle.promises.specs.Facts.{Is}
-use Rattle.promises.proofs.Bools.{clash, either, second, equal, said, _and_}
+use Rattle.rules.specs.Lists.{Each, Once}
+use Rattle.rules.specs.Facts.{Is}
+use Rattle.rules.proofs.Bools.{clash, either, second, equal, said, _and_}
 
 -- ---- what stands at a place
 module _ {A : Type 0} (d : A) where

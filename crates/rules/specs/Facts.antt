@@ -13,7 +13,7 @@ use Rattle.records.specs.declared.User.{User}
 use Rattle.records.specs.declared.Script.{Script}
 use Rattle.records.specs.declared.Session.{Session}
 use Rattle.records.specs.declared.Draft.{Draft}
-use Rattle.promises.specs.Lists.{Each, Once}
+use Rattle.rules.specs.Lists.{Each, Once}
 
 -- the test b holds exactly where P does
 pub record Is (b : Bool) (P : Type 0) : Type 0 where

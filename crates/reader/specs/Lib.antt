@@ -1,0 +1,2 @@
+-- What the reader takes in from the frames of an image.
+pub mod Reading

@@ -1,0 +1,1 @@
+// The record rules, decided by code.
