@@ -1,11 +1,14 @@
 /*
  * The desk's rules in C, written for speed: what the proved program is measured against.
  *
- * Reads requests from standard input and prints a line for each answer, as the program does. It is tested against that
- * program on the measured streams, and is otherwise not part of the desk.
+ * Reads requests from standard input and prints a line for each answer, as the program does, with --last, --from and --save as there (an
+ * image is written over the old one, at once). It is tested against that program on the measured streams and images, and is otherwise
+ * not part of the desk.
  */
+#include <fcntl.h>
 #include <stdint.h>
 #include <stdio.h>
+#include <stdlib.h>
 #include <string.h>
 #include <unistd.h>
 
@@ -49,6 +52,8 @@ static struct draft *find_draft(struct house *h, unsigned script, uint32_t numbe
     }
     return low < h->live && h->drafts[low].number == number && h->drafts[low].script == script ? &h->drafts[low] : 0;
 }
+
+#include "image.h"
 
 /* ---- effects */
 
@@ -463,7 +468,35 @@ static void line(uint64_t ordinal, unsigned kind, unsigned byte)
     out[filled++] = '\n';
 }
 
-int main(void)
+static int load(const char *name)
+{
+    static uint8_t image[65537];
+    size_t n = 0;
+    ssize_t got;
+    int refusal, fd = open(name, O_RDONLY);
+    if (fd < 0)
+        return perror(name), 1;
+    while (n < sizeof image && (got = read(fd, image + n, sizeof image - n)) > 0)
+        n += (size_t)got;
+    close(fd);
+    refusal = n == sizeof image ? 15 : open_image(image, n, &current, &last);
+    if (refusal)
+        return fprintf(stderr, "desk: %s: refused %d\n", name, refusal), 1;
+    base = current;
+    return 0;
+}
+
+static int save(const char *name)
+{
+    static uint8_t image[IMAGE_MAX];
+    size_t n = image_of(&current, last, image);
+    int fd = open(name, O_WRONLY | O_CREAT | O_TRUNC, 0600);
+    if (fd < 0 || write(fd, image, n) != (ssize_t)n || close(fd))
+        return perror(name), 1;
+    return 0;
+}
+
+static void serve(void)
 {
     static uint8_t in[1 << 16];
     size_t have = 0;
@@ -476,7 +509,7 @@ int main(void)
             if (length == 255) {
                 line(++ordinal, kind, 0xC1);
                 flush();
-                return 0;
+                return;
             }
             if (end - at <= length)
                 break;
@@ -487,9 +520,23 @@ int main(void)
             if (at < end)
                 line(++ordinal, in[at], 0xC2);
             flush();
-            return 0;
+            return;
         }
         have = end - at;
         memmove(in, in + at, have);
     }
+}
+
+int main(int argc, char **argv)
+{
+    const char *to = 0;
+    for (; argc > 2; argc -= 2, argv += 2)
+        if (!strcmp(argv[1], "--last"))
+            last = (uint32_t)strtoul(argv[2], 0, 10);
+        else if (!strcmp(argv[1], "--save"))
+            to = argv[2];
+        else if (strcmp(argv[1], "--from") || load(argv[2]))
+            return 1;
+    serve();
+    return to ? save(to) : 0;
 }
