@@ -1,5 +1,5 @@
 #!/bin/sh
-# Measures the program beside bench/desk.c: mixed requests, what is copied, and the costs that could grow. Prints the results, and writes them into
+# Measures the program beside bench/desk.c: mixed requests, what is copied, the costs that could grow, and images. Prints the results, and writes them into
 # bench/RESULTS.md too. Both programs read a stream from a file and write to /dev/null, in turn, and the best of several runs counts.
 #
 #   sh bench/run.sh [REQUESTS [RUNS]]
@@ -20,6 +20,7 @@ trap 'exit 1' HUP INT TERM
 desk=$root/target/bin/desk
 gcc -std=c99 -O2 -D_DEFAULT_SOURCE "$root/bench/desk.c" -o "$work/c"
 gcc -std=c99 -O2 "$root/bench/streams.c" -o "$work/streams"
+gcc -std=c99 -O2 -D_DEFAULT_SOURCE "$root/bench/starts.c" -o "$work/starts"
 gcc -O2 -fno-builtin -fno-tree-loop-distribute-patterns -shared -fPIC "$root/bench/copies.c" -o "$work/copies.so"
 model=$(sh "$root/tests/build-model.sh")
 
@@ -43,6 +44,23 @@ row() {
     "$work/streams" $3 >"$work/one" 2>"$work/setup"
     measure "$work/one"
     awk -v what="$1" -v n="$2" -v c="$best_c" -v d="$best_desk" 'BEGIN { printf "| %s | %.0f | %.0f | %.2f |\n", what, c / n, d / n, d / c }'
+}
+
+# Microseconds that opening an image adds to the start of a program that then reads nothing.
+opening() { # PROGRAM
+    "$work/starts" 2000 "$1" --last 1 >"$work/plain"
+    "$work/starts" 2000 "$1" --from "$work/image" >"$work/opened"
+    awk 'NR == FNR { plain = $1; next } { printf "%.0f", ($1 - plain) / 1000 }' "$work/plain" "$work/opened"
+}
+
+# An image of a full desk that both programs write alike.
+images() {
+    "$work/streams" take-backs 1 >"$work/one" 2>"$work/setup"
+    "$work/c" --save "$work/image" <"$work/one" >"$work/c.out"
+    "$desk" --save "$work/desk.image" <"$work/one" >"$work/desk.out"
+    cmp "$work/image" "$work/desk.image" >&2 || { echo "bench: the two write different images" >&2; exit 1; }
+    echo
+    echo "A full desk's image, $(wc -c <"$work/image") bytes, opened: $(opening "$work/c") microseconds in C, $(opening "$desk") in the desk (the least of 2000 starts with it, less the least without)."
 }
 
 results() {
@@ -78,6 +96,7 @@ results() {
     row "a read, 256 live drafts" 1000000 "reads 256 1000000"
     row "a session opened and taken back, 32 kept changes, full desk" 50000 "take-backs 50000"
     row "a Disband of the full desk, taken back, 32 kept changes" 50000 "disbands 50000"
+    images
 }
 
 results >"$work/results"

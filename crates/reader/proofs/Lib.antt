@@ -1,1 +1,2 @@
 -- The laws of the walk.
+pub mod Walking
