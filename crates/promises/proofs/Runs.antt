@@ -1,4 +1,4 @@
--- Demand 3 over any run of requests from an opening: the records, the answers, the take-backs and the numbers.
+-- Demand 3 over any run of requests from any opening: the records, the answers, the take-backs and the numbers.
 use mathlib.Core.Path.{_≡_, refl, sym, subst}
 use mathlib.Core.Bool.{Bool, true, false, cond}
 use mathlib.Core.List.{List, [], _∷_}
@@ -36,7 +36,8 @@ module _ {S C Q : Type 0} (R : Rulebook S C Q) (start : S) where
       let s = step-same R start d b a q in
       (λ i. s .answers i ∷ run-answers (step R d q .desk) (note R start b q .book) (s .agrees) qs i)
 
-  -- "the records equal those got by starting from the records that the desk opened with and applying, in order, every granted change that wasn't taken back, each with the draft number it received"
+  -- "the records equal those got by starting" from the records that the desk opened with "and applying, in order, every granted change that wasn't taken
+  -- back, each with the draft number it received"
   pub records-are-survivors : (last : ℕ) (qs : List Q) → run R (opened start last) qs .current ≡ changed R start (bookAfter R start (blank last) qs .survivors)
   records-are-survivors last qs = run-agrees (opened start last) (blank last) (opened-agrees R start last) qs .now
 
