@@ -93,8 +93,10 @@ all-stopped why s (piece ∷ more) are stops later =
     go next false e rest = refl
     go next true e rest = ap (λ (t : List ℕ). turn why s piece .text ++ t) (rest e)
 
-pub prints-pieces : (why : Bool) (pieces : List (List ℕ)) → Pieces pieces → writes why first pieces ≡ printed why (joined pieces)
-prints-pieces why pieces are = all-written why first pieces are
+-- d is the desk that the program opened
+pub prints-pieces : (why : Bool) (d : Desk House Change) (pieces : List (List ℕ)) → Pieces pieces → writes why (first d) pieces ≡ printed why d (joined pieces)
+prints-pieces why d pieces are = all-written why (first d) pieces are
 
-pub stops-for-good : (why : Bool) (pieces : List (List ℕ)) → Pieces pieces → wentOn why first pieces ≡ false → (later : List ℕ) → writes why first pieces ≡ printed why (joined pieces ++ later)
-stops-for-good why pieces are stops later = all-stopped why first pieces are stops later
+pub stops-for-good : (why : Bool) (d : Desk House Change) (pieces : List (List ℕ)) → Pieces pieces → wentOn why (first d) pieces ≡ false → (later : List ℕ)
+    → writes why (first d) pieces ≡ printed why d (joined pieces ++ later)
+stops-for-good why d pieces are stops later = all-stopped why (first d) pieces are stops later

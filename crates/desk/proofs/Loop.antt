@@ -9,16 +9,20 @@ use lib.Seq.{length-take-le, take-at}
 use Rattle.records.specs.House.{House}
 use Rattle.effects.specs.declared.Change.{Change}
 use Rattle.history.specs.Machine.{Desk, opened}
-use Rattle.history.specs.Desk.{deskRules}
 use Rattle.io.specs.Counts.{Counts}
 use Rattle.desk.specs.Turns.{Stand, stand, first, Turned, turn, standAfter, wentOn, TurnIs}
 use Rattle.desk.specs.declared.pieces.Turn.{Turn}
 use Rattle.desk.proofs.Steps.{part-length, ordinal-near, few-waiting}
 
-pub record Reached (why : Bool) (s : Stand) : Type 0 where
+-- a desk that was opened with some records and number was opened with those that it has
+pub just-opened : {d : Desk House Change} {h : House} {last : ℕ} → d ≡ opened h last → d ≡ opened (d .current) (d .last)
+just-opened e = e ∙ (λ i. opened (sym (ap (λ (d : Desk House Change). d .current) e) i) (sym (ap (λ (d : Desk House Change). d .last) e) i))
+
+-- d₀ is the desk that the program opened
+pub record Reached (why : Bool) (d₀ : Desk House Change) (s : Stand) : Type 0 where
   pub pieces : List (List ℕ)
-  pub went : wentOn why first pieces ≡ true
-  pub is : standAfter why first pieces ≡ s
+  pub went : wentOn why (first d₀) pieces ≡ true
+  pub is : standAfter why (first d₀) pieces ≡ s
 
 after-one-more : (why : Bool) (s : Stand) (pieces : List (List ℕ)) (piece : List ℕ) → standAfter why s (pieces ++ (piece ∷ [])) ≡ turn why (standAfter why s pieces) piece .next
 after-one-more why s [] piece = refl
@@ -33,29 +37,29 @@ went-one-more why s (p ∷ more) piece w on = go (turn why s p .onward) w (λ v.
     go true w rest = rest w
     go false w rest = w
 
-reached-on : (why : Bool) (s : Stand) → Reached why s → (piece : List ℕ) → turn why s piece .onward ≡ true → Reached why (turn why s piece .next)
-reached-on why s r piece on =
+reached-on : (why : Bool) (d₀ : Desk House Change) (s : Stand) → Reached why d₀ s → (piece : List ℕ) → turn why s piece .onward ≡ true → Reached why d₀ (turn why s piece .next)
+reached-on why d₀ s r piece on =
     record {
       pieces = r .pieces ++ (piece ∷ []);
-      went = went-one-more why first (r .pieces) piece (r .went) (ap (λ (x : Stand). turn why x piece .onward) (r .is) ∙ on);
-      is = after-one-more why first (r .pieces) piece ∙ ap (λ (x : Stand). turn why x piece .next) (r .is);
+      went = went-one-more why (first d₀) (r .pieces) piece (r .went) (ap (λ (x : Stand). turn why x piece .onward) (r .is) ∙ on);
+      is = after-one-more why (first d₀) (r .pieces) piece ∙ ap (λ (x : Stand). turn why x piece .next) (r .is);
     }
 
-pub record Between (why : Bool) (d : Desk House Change) (ordinal have turns : ℕ) (buf out : List ℕ) : Type 0 where
+pub record Between (why : Bool) (d₀ d : Desk House Change) (ordinal have turns : ℕ) (buf out : List ℕ) : Type 0 where
   pub few : have ≤ 8
   pub buf-length : length buf ≡ 1024
   pub out-length : length out ≡ 139264
   pub small : ordinal + 1024 * turns ≤ 1 + 1024 * 1125899906842624
-  pub reached : Reached why (stand d ordinal (take have buf))
+  pub reached : Reached why d₀ (stand d ordinal (take have buf))
 
-pub at-start : (why : Bool) {d : Desk House Change} → d ≡ opened deskRules 0 → (buf out : List ℕ) → length buf ≡ 1024 → length out ≡ 139264 → Between why d 1 0 1125899906842624 buf out
-at-start why e buf out b o =
+pub at-start : (why : Bool) (d : Desk House Change) (buf out : List ℕ) → length buf ≡ 1024 → length out ≡ 139264 → Between why d d 1 0 1125899906842624 buf out
+at-start why d buf out b o =
     record {
       few = omega arith;
       buf-length = b;
       out-length = o;
       small = omega arith;
-      reached = record { pieces = []; went = refl; is = ap (λ (d : Desk House Change). stand d 1 []) (sym e) };
+      reached = record { pieces = []; went = refl; is = refl };
     }
 
 -- bytes were read behind the first `have` bytes of buf
@@ -79,11 +83,11 @@ text-there {r = r} {out = out} is =
     (omega (arith, size, length-take (r .text) out), size)
 
 -- a piece was read: buf is now `read`, with the bytes that wait as they were
-module _ {why : Bool} {d : Desk House Change} {ordinal have turns : ℕ} {buf out : List ℕ} (between : Between why d ordinal have turns buf out) (read : List ℕ) (same : take have read ≡ take have buf)
+module _ {why : Bool} {d₀ d : Desk House Change} {ordinal have turns : ℕ} {buf out : List ℕ} (between : Between why d₀ d ordinal have turns buf out) (read : List ℕ) (same : take have read ≡ take have buf)
     (got : ℕ) (room : have + got ≤ length read) (read-length : length read ≡ 1024)
     {d′ : Desk House Change} (r : Turn) (buf′ out′ : List ℕ) (is : TurnIs (turn why (stand d ordinal (take have read)) (take got (drop have read))) d′ r buf′ out′)
   where
-    pub again : 0 < turns → length buf′ ≡ 1024 → length out′ ≡ 139264 → r .onward ≡ true → Between why d′ (r .ordinal) (r .have) (turns - 1) buf′ out′
+    pub again : 0 < turns → length buf′ ≡ 1024 → length out′ ≡ 139264 → r .onward ≡ true → Between why d₀ d′ (r .ordinal) (r .have) (turns - 1) buf′ out′
     again some b o on =
         let s : Stand = stand d ordinal (take have read) in
         let piece : List ℕ = take got (drop have read) in
@@ -95,7 +99,7 @@ module _ {why : Bool} {d : Desk House Change} {ordinal have turns : ℕ} {buf ou
           out-length = o;
           small = omega (arith, between .small, is .ordinal, near, room, read-length, some);
           reached =
-              let here : Reached why s = subst (λ (w : List ℕ). Reached why (stand d ordinal w)) (sym same) (between .reached) in
+              let here : Reached why d₀ s = subst (λ (w : List ℕ). Reached why d₀ (stand d ordinal w)) (sym same) (between .reached) in
               let next : turn why s piece .next ≡ stand d′ (r .ordinal) (take (r .have) buf′) = λ i. stand (sym (is .desk) i) (sym (is .ordinal) i) (sym (is .waiting) i) in
-              subst (Reached why) next (reached-on why s here piece goes);
+              subst (Reached why d₀) next (reached-on why d₀ s here piece goes);
         }

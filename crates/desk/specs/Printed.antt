@@ -4,8 +4,7 @@ use mathlib.Core.Bool.{Bool}
 use mathlib.Core.List.{List, [], _∷_, _++_}
 use Rattle.records.specs.House.{House}
 use Rattle.effects.specs.declared.Change.{Change}
-use Rattle.history.specs.Machine.{Desk, opened}
-use Rattle.history.specs.Desk.{deskRules}
+use Rattle.history.specs.Machine.{Desk}
 use Rattle.desk.specs.Lines.{lineOf}
 use Rattle.desk.specs.Answers.{Given, given}
 
@@ -17,6 +16,6 @@ linesFrom why k (g ∷ gs) = lineOf why k (g .kind) (g .answer) (g .reason) ++ l
 abbrev pub printedOn : Bool → Desk House Change → ℕ → List ℕ → List ℕ
 printedOn why d k input = linesFrom why k (given d input)
 
--- "the program `desk` opens with 0"; the first line has the ordinal 1
-abbrev pub printed : Bool → List ℕ → List ℕ
-printed why input = printedOn why (opened deskRules 0) 1 input
+-- on the desk d that the program opened; the first line has the ordinal 1
+abbrev pub printed : Bool → Desk House Change → List ℕ → List ℕ
+printed why d input = printedOn why d 1 input

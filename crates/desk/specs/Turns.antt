@@ -8,7 +8,7 @@ use lib.ListN.{length, take, drop}
 use Rattle.request.specs.Framing.{End, no-bytes, unknown-kind, cut-body, Series, seriesOf, writtenOut}
 use Rattle.records.specs.House.{House}
 use Rattle.effects.specs.declared.Change.{Change}
-use Rattle.history.specs.Machine.{Desk, opened, run}
+use Rattle.history.specs.Machine.{Desk, run}
 use Rattle.history.specs.Desk.{deskRules}
 use Rattle.desk.specs.Answers.{givenTo}
 use Rattle.desk.specs.Printed.{linesFrom}
@@ -52,8 +52,9 @@ pub record Stand : Type 0 where
 abbrev pub stand : Desk House Change → ℕ → List ℕ → Stand
 stand d k waiting = record { desk = d; ordinal = k; waiting = waiting }
 
-abbrev pub first : Stand
-first = stand (opened deskRules 0) 1 []
+-- before the first piece, with d the desk that the program opened
+abbrev pub first : Desk House Change → Stand
+first d = stand d 1 []
 
 -- what is written for a piece, where the program stands then, and whether it goes on
 pub record Turned : Type 0 where

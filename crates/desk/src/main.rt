@@ -5,9 +5,11 @@ mod pieces;
 
 ghost use mathlib.Core.Path.{_≡_};
 ghost use lib.ListN.{length};
+ghost use Rattle.records.specs.House.{view, emptyHouse};
 ghost use Rattle.history.specs.Machine.{opened};
-ghost use Rattle.history.specs.Desk.{shown, deskRules};
+ghost use Rattle.history.specs.Desk.{shown};
 use arguments::Arguments;
+use history::Desk;
 use libc::STDERR_FILENO;
 use libc::STDIN_FILENO;
 use libc::STDOUT_FILENO;
@@ -28,7 +30,7 @@ fn run(
     buf: &mut [u8],
     out: &mut [u8],
 )
-    requires { ⌜ shown (now base) (now log) (now current) (now last) ≡ opened deskRules 0 ⌝ }
+    requires { ⌜ shown (now base) (now log) (now current) (now last) ≡ opened (view (now current)) (now last) ⌝ }
     requires { ⌜ (length (now buf) ≡ 1024) × (length (now out) ≡ 139264) ⌝ }
 {
     let mut ordinal: u64 = 1;
@@ -89,8 +91,15 @@ fn words() -> Arguments {
     taken
 }
 
+// The desk that the program opens: without records, and with 0.
+fn start() -> Desk
+    ensures { λ r. ⌜ shown (r .base) (r .log) (r .current) (r .last) ≡ opened emptyHouse 0 ⌝ }
+{
+    history::open(0)
+}
+
 fn serve(why: bool) {
-    let desk = history::open(0);
+    let desk = start();
     let mut base = desk.base;
     let mut log = desk.log;
     let mut current = desk.current;

@@ -6,7 +6,7 @@ use lib.Dec.{ltb}
 use lib.ListN.{length, take}
 use Rattle.request.specs.Bytes.{quadBytes}
 use Rattle.request.specs.declared.Request.{Request}
-use Rattle.records.specs.House.{House, view, emptyHouse}
+use Rattle.records.specs.House.{House, view}
 use Rattle.effects.specs.Effects.{applied}
 use Rattle.effects.specs.declared.Change.{Change}
 use Rattle.log.specs.Log.{past}
@@ -28,7 +28,7 @@ verdictOf q KeepNumbered = issue (changeOf q)
 verdictOf q TakeBack = undo
 
 abbrev pub deskRules : Rulebook House Change Request
-deskRules = record { none = emptyHouse; apply = applied; judge = λ h q. verdictOf q (rulingOf h q) }
+deskRules = record { apply = applied; judge = λ h q. verdictOf q (rulingOf h q) }
 
 -- what the parts of a desk and its last number show
 abbrev pub shown : List ℕ → List ℕ → List ℕ → ℕ → Desk House Change

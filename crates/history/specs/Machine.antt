@@ -18,9 +18,8 @@ pub data Verdict (C : Type 0) : Type 0 where
   issue : (ℕ → C) → Verdict C  -- granted, if a number is left: the change that bears it is made and kept
   undo : Verdict C  -- a take-back that the rules allow
 
--- the rules: no records, the effect of a change, and how a request is judged
+-- the rules: the effect of a change, and how a request is judged
 pub record Rulebook (S C Q : Type 0) : Type 0 where
-  pub none : S
   pub apply : S → C → S
   pub judge : S → Q → Verdict C
 
@@ -38,11 +37,11 @@ pub record Outcome (S C : Type 0) : Type 0 where
 abbrev pub outcome : {S C : Type 0} → Desk S C → Answer → Outcome S C
 outcome d a = record { desk = d; answer = a }
 
-module _ {S C Q : Type 0} (R : Rulebook S C Q) where
-  -- "Opening a desk takes the last draft number already used"
-  abbrev pub opened : ℕ → Desk S C
-  opened n = record { base = R .none; log = []; current = R .none; last = n }
+-- a desk opens with records, and with "the last draft number already used"; 02: "An opened image has a kept count of 0"
+abbrev pub opened : {S C : Type 0} → S → ℕ → Desk S C
+opened s n = record { base = s; log = []; current = s; last = n }
 
+module _ {S C Q : Type 0} (R : Rulebook S C Q) where
   -- the records after some changes, in order
   abbrev pub changed : S → List C → S
   changed s l = foldl (R .apply) s l

@@ -1,7 +1,7 @@
 // The desk: its records, its kept changes, and one request after the other.
 ghost use mathlib.Core.Path.{_≡_};
 ghost use Prim.Native.Nat.{ℕ};
-ghost use Rattle.records.specs.House.{view};
+ghost use Rattle.records.specs.House.{view, emptyHouse};
 ghost use Rattle.log.specs.Log.{past};
 ghost use Rattle.history.specs.Machine.{opened, outcome, keepChange, takeBack, issued, ruled, step};
 ghost use Rattle.history.specs.Desk.{shown, deskRules, changeOf, verdictOf, settled, answerByte};
@@ -38,9 +38,9 @@ pub fn answer_byte(answer: Answer) -> u8
     }
 }
 
-// Takes the last draft number already used.
+// Without records, and with the last draft number already used.
 pub fn open(last: u32) -> Desk
-    ensures { λ r. ⌜ shown (r .base) (r .log) (r .current) (r .last) ≡ opened deskRules last ⌝ }
+    ensures { λ r. ⌜ shown (r .base) (r .log) (r .current) (r .last) ≡ opened emptyHouse last ⌝ }
 {
     Desk {
         base: [0u32; 1858],

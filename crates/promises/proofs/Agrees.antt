@@ -26,18 +26,18 @@ newest-goes (x ∷ xs) ys h = longer (length-append xs ys) (newest-goes xs ys h)
         let n : length (x ∷ (xs ++ ys)) - 1 ≡ suc (length (xs ++ ys) - 1) = omega arith in
         ap (λ (k : ℕ). take k (x ∷ (xs ++ ys))) n ∙ ap (λ (r : List _). x ∷ r) e
 
-module _ {S C Q : Type 0} (R : Rulebook S C Q) where
+module _ {S C Q : Type 0} (R : Rulebook S C Q) (start : S) where
   -- the changes in the base are those that can't be taken back any more; the log has the rest
   pub record Agrees (d : Desk S C) (b : Book C) : Type 0 where
     pub older : List C
-    pub base-is : d .base ≡ changed R (R .none) older
+    pub base-is : d .base ≡ changed R start older
     pub split : b .survivors ≡ older ++ d .log
-    pub now : d .current ≡ recordsOf R b
+    pub now : d .current ≡ recordsOf R start b
     pub count-is : b .count ≡ length (d .log)
     pub most : length (d .log) ≤ 32
     pub last-is : d .last ≡ b .last
 
-  pub opened-agrees : (n : ℕ) → Agrees (opened R n) (blank n)
+  pub opened-agrees : (n : ℕ) → Agrees (opened start n) (blank n)
   opened-agrees n = record { older = []; base-is = refl; split = refl; now = refl; count-is = refl; most = omega arith; last-is = refl }
 
   -- what the desk did and what the book says
@@ -46,8 +46,8 @@ module _ {S C Q : Type 0} (R : Rulebook S C Q) where
     pub answers : o .answer ≡ e .answer
 
   module _ (d : Desk S C) (b : Book C) (a : Agrees d b) where
-    one-more : (c : C) → R .apply (d .current) c ≡ changed R (R .none) (b .survivors ++ (c ∷ []))
-    one-more c = ap (λ (s : S). R .apply s c) (a .now) ∙ sym (foldl-append (R .apply) (R .none) (b .survivors) (c ∷ []))
+    one-more : (c : C) → R .apply (d .current) c ≡ changed R start (b .survivors ++ (c ∷ []))
+    one-more c = ap (λ (s : S). R .apply s c) (a .now) ∙ sym (foldl-append (R .apply) start (b .survivors) (c ∷ []))
 
     pub keep-agrees : (c : C) (n : ℕ) → Agrees (keepChange R d c n) (enter R b c n)
     keep-agrees c n = keep-ways R (λ e. Agrees e (enter R b c n)) d c n by-room by-base
@@ -76,7 +76,7 @@ module _ {S C Q : Type 0} (R : Rulebook S C Q) where
             ap (λ (r : List C). a .older ++ r) (sym (take-append-drop 1 (d .log))) ∙ sym (append-assoc (a .older) (take 1 (d .log)) (drop 1 (d .log))) in
             record {
               older = a .older ++ take 1 (d .log);
-              base-is = ap (λ (s : S). changed R s (take 1 (d .log))) (a .base-is) ∙ sym (foldl-append (R .apply) (R .none) (a .older) (take 1 (d .log)));
+              base-is = ap (λ (s : S). changed R s (take 1 (d .log))) (a .base-is) ∙ sym (foldl-append (R .apply) start (a .older) (take 1 (d .log)));
               split = ap (λ (r : List C). r ++ (c ∷ [])) (a .split ∙ parts) ∙ append-assoc (a .older ++ take 1 (d .log)) (drop 1 (d .log)) (c ∷ []);
               now = one-more c;
               count-is = omega (arith, a .count-is, a .most);
@@ -107,8 +107,8 @@ module _ {S C Q : Type 0} (R : Rulebook S C Q) where
                 split = rest;
                 now =
                     ap (λ (s : S). changed R s (take (length (d .log) - 1) (d .log))) (a .base-is)
-                    ∙ sym (foldl-append (R .apply) (R .none) (a .older) (take (length (d .log) - 1) (d .log)))
-                    ∙ ap (changed R (R .none)) (sym rest);
+                    ∙ sym (foldl-append (R .apply) start (a .older) (take (length (d .log) - 1) (d .log)))
+                    ∙ ap (changed R start) (sym rest);
                 count-is = omega (arith, a .count-is);
                 most = omega (arith, a .most);
                 last-is = a .last-is;
@@ -130,7 +130,7 @@ module _ {S C Q : Type 0} (R : Rulebook S C Q) where
     ruled-same undo = back-same
 
     -- the desk judges by its records, the book by the records that it says: they are the same
-    pub step-same : (q : Q) → Same (step R d q) (note R b q)
+    pub step-same : (q : Q) → Same (step R d q) (note R start b q)
     unfolding step note
     step-same q =
         subst (λ (s : S). Same (ruled R d (R .judge (d .current) q)) (noted R b (R .judge s q))) (a .now) (ruled-same (R .judge (d .current) q))

@@ -166,26 +166,26 @@ back-for-good d u rs w b =
 
 -- ---- back as it stood
 -- at every reached desk the records are those of the base and all kept changes
-reached-sound : {S C Q : Type 0} (R : Rulebook S C Q) (n : ℕ) (qs : List Q) → Sound R (λ _. Unit {0}) (run R (opened R n) qs)
-reached-sound R n qs = record { made = made; each = λ k. tt }
+reached-sound : {S C Q : Type 0} (R : Rulebook S C Q) (start : S) (last : ℕ) (qs : List Q) → Sound R (λ _. Unit {0}) (run R (opened start last) qs)
+reached-sound R start last qs = record { made = made; each = λ k. tt }
   where
-    made : run R (opened R n) qs .current ≡ changed R (run R (opened R n) qs .base) (run R (opened R n) qs .log)
+    made : run R (opened start last) qs .current ≡ changed R (run R (opened start last) qs .base) (run R (opened start last) qs .log)
     made =
-        let a = run-agrees R (opened R n) (blank n) (opened-agrees R n) qs in
-        let d = run R (opened R n) qs in
-        a .now ∙ ap (foldl (R .apply) (R .none)) (a .split) ∙ foldl-append (R .apply) (R .none) (a .older) (d .log)
+        let a = run-agrees R start (opened start last) (blank last) (opened-agrees R start last) qs in
+        let d = run R (opened start last) qs in
+        a .now ∙ ap (foldl (R .apply) start) (a .split) ∙ foldl-append (R .apply) start (a .older) (d .log)
         ∙ ap (λ (s : _). changed R s (d .log)) (sym (a .base-is))
 
 -- a granted change, then requests that are refused or only read, then a granted Take back: the records are those before the change; the number stays
-pub back-as-it-stood : (n : ℕ) (before : List Request) (q : Request) (rs : List Request) (u : ℕ) → IsChange q → ThenBack (reachedDesk n before) q rs u
-    → AsItStood (reachedDesk n before) q (step deskRules (atLast (reachedDesk n before) q rs) (TakeBack u))
-back-as-it-stood n before q rs u c b =
-    let stood = reachedDesk n before in
+pub back-as-it-stood : (h : House) (last : ℕ) (before : List Request) (q : Request) (rs : List Request) (u : ℕ) → IsChange q → ThenBack (reachedDesk h last before) q rs u
+    → AsItStood (reachedDesk h last before) q (step deskRules (atLast (reachedDesk h last before) q rs) (TakeBack u))
+back-as-it-stood h last before q rs u c b =
+    let stood = reachedDesk h last before in
     let t = takes-newest (atLast stood q rs) u (b .back) in
     let m = made-so stood q (b .granted) c in
     let same = idle-run (nextDesk stood q) rs (b .idle) in
     record {
       records = t .records ∙ ap (lessNewest deskRules) (same ∙ m .desk)
-          ∙ keep-back deskRules (λ _. Unit {0}) stood (reached-sound deskRules n before) (changeOf q (m .number)) (m .last);
+          ∙ keep-back deskRules (λ _. Unit {0}) stood (reached-sound deskRules h last before) (changeOf q (m .number)) (m .last);
       number = t .last ∙ ap (λ (e : Desk House Change). e .last) same;
     }

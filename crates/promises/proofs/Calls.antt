@@ -1,4 +1,5 @@
--- What is promised holds of every desk that bytes reach: over any calls of the batch, and over any input of the program.
+-- What is promised holds of every desk that bytes reach, from any records and last number that meet the record rules: over any calls of the batch, and over
+-- any input of the program.
 use Prim.Native.Nat.{ℕ, _≤_}
 use mathlib.Core.Path.{_≡_, refl, sym, ap, _∙_, subst}
 use mathlib.Core.Bool.{Bool, true, false, _&&_}
@@ -10,11 +11,14 @@ use Rattle.request.specs.Bytes.{Bytes}
 use Rattle.request.specs.Framing.{seriesOf}
 use Rattle.request.specs.declared.Request.{Request}
 use Rattle.records.specs.Lists.{all}
+use Rattle.records.specs.House.{House, emptyHouse}
 use Rattle.counter.specs.Numbers.{top}
 use Rattle.history.specs.Machine.{opened, step, run, answers}
 use Rattle.history.specs.Desk.{deskRules}
 use Rattle.batch.specs.Batch.{State, roomFor, taken}
 use Rattle.batch.proofs.Served.{desk-runs}
+use Rattle.rules.specs.Rules.{rules}
+use Rattle.rules.proofs.Empty.{empty-meets}
 use Rattle.promises.specs.Fits.{fits}
 use Rattle.promises.specs.Calls.{Call, Calls, none, then, roomOf, takenIn, Promised}
 use Rattle.promises.proofs.Fitting.{taken-fit}
@@ -24,17 +28,17 @@ use Rattle.promises.proofs.Seen.{given-once, live-made}
 use Rattle.promises.proofs.Demands.{by-the-book, by-the-answers, rising, no-change-left, newest-goes}
 
 -- ---- of any requests that fit their bytes
-pub of-requests : (last : ℕ) → last ≤ top → (qs : List Request) → all fits qs ≡ true → Promised last qs (run deskRules (opened deskRules last) qs)
-of-requests last l qs fit = record {
-  by-the-book = by-the-book last qs;
-  by-the-answers = by-the-answers last qs;
-  rising = rising last qs;
-  no-change-left = λ u a z. no-change-left last qs u a z;
-  newest-goes = λ u a n. newest-goes last qs u a n;
-  back-as-it-stood = λ q rs u c b. back-as-it-stood last qs q rs u c b;
-  given-once = given-once last qs;
-  live-made = live-made last qs;
-  meets = reached last l qs fit;
+pub of-requests : (h : House) (last : ℕ) → rules h last ≡ true → (qs : List Request) → all fits qs ≡ true → Promised h last qs (run deskRules (opened h last) qs)
+of-requests h last m qs fit = record {
+  by-the-book = by-the-book h last qs;
+  by-the-answers = by-the-answers h last qs;
+  rising = rising h last qs;
+  no-change-left = λ u a z. no-change-left h last qs u a z;
+  newest-goes = λ u a n. newest-goes h last qs u a n;
+  back-as-it-stood = λ q rs u c b. back-as-it-stood h last qs q rs u c b;
+  given-once = given-once h last qs;
+  live-made = live-made h last m qs;
+  meets = reached h last m qs fit;
 }
 
 -- ---- of any calls of the batch
@@ -63,12 +67,21 @@ calls-fit {d} (then {cs = cs} c bytes b more) =
     all-on (taken d (c .requests) (roomOf c)) _ (taken-fit (c .requests) bytes (roomFor (roomOf c) (answers deskRules d (seriesOf (c .requests) .requests))))
     (subst (λ (x : State). all fits (takenIn x cs) ≡ true) (desk-runs b) (calls-fit more))
 
-pub of-calls : (last : ℕ) → last ≤ top → {cs : List Call} {d : State} → Calls (opened deskRules last) cs d → Promised last (takenIn (opened deskRules last) cs) d
-of-calls last l {cs} {d} c =
-    subst (Promised last (takenIn (opened deskRules last) cs)) (sym (calls-run c)) (of-requests last l (takenIn (opened deskRules last) cs) (calls-fit c))
+pub of-calls : (h : House) (last : ℕ) → rules h last ≡ true → {cs : List Call} {d : State} → Calls (opened h last) cs d → Promised h last (takenIn (opened h last) cs) d
+of-calls h last m {cs} {d} c =
+    subst (Promised h last (takenIn (opened h last) cs)) (sym (calls-run c)) (of-requests h last m (takenIn (opened h last) cs) (calls-fit c))
 
--- ---- of any input of the program, which opens with 0: its answers are those of the requests that the input is cut into
-pub of-input : (input : List ℕ) → Bytes input → Promised 0 (seriesOf input .requests) (run deskRules (opened deskRules 0) (seriesOf input .requests))
-of-input input bytes =
+-- ---- of any input of the program, whatever it opened with: its answers are those of the requests that the input is cut into
+pub of-input : (h : House) (last : ℕ) → rules h last ≡ true → (input : List ℕ) → Bytes input
+    → Promised h last (seriesOf input .requests) (run deskRules (opened h last) (seriesOf input .requests))
+of-input h last m input bytes =
     let qs : List Request = seriesOf input .requests in
-    of-requests 0 (omega arith) qs (subst (λ (l : List Request). all fits l ≡ true) (take-all (length qs) qs (omega arith)) (taken-fit input bytes (length qs)))
+    of-requests h last m qs (subst (λ (l : List Request). all fits l ≡ true) (take-all (length qs) qs (omega arith)) (taken-fit input bytes (length qs)))
+
+-- ---- from an opening without records, with any last number: they meet the rules
+pub from-empty : (last : ℕ) → last ≤ top → {cs : List Call} {d : State} → Calls (opened emptyHouse last) cs d → Promised emptyHouse last (takenIn (opened emptyHouse last) cs) d
+from-empty last l = of-calls emptyHouse last (empty-meets last l)
+
+pub input-from-empty : (last : ℕ) → last ≤ top → (input : List ℕ) → Bytes input
+    → Promised emptyHouse last (seriesOf input .requests) (run deskRules (opened emptyHouse last) (seriesOf input .requests))
+input-from-empty last l = of-input emptyHouse last (empty-meets last l)

@@ -1,4 +1,4 @@
--- Demands 2 and 3 of this desk: at any desk, and over any requests from any opening.
+-- Demands 2 and 3 of this desk: at any desk, and over any requests from any records and last number that it opened with.
 use mathlib.Core.Path.{_≡_, refl, ap, _∙_}
 use mathlib.Core.List.{List, [], foldl}
 use Prim.Native.Nat.{ℕ, _+_}
@@ -6,7 +6,7 @@ use borrow.Author.Tests.{eq-eqb, ne-eqb}
 use Rattle.request.specs.declared.Request.{Request}
 use Rattle.request.specs.declared.Request.the-variants.{TakeBack}
 use Rattle.request.proofs.Absurd.{differ}
-use Rattle.records.specs.House.{House, emptyHouse}
+use Rattle.records.specs.House.{House}
 use Rattle.effects.specs.Effects.{applied}
 use Rattle.effects.specs.declared.Change.{Change}
 use Rattle.reasons.specs.Asking.{AllHold, FirstFailing}
@@ -16,7 +16,7 @@ use Rattle.judge.specs.declared.Ruling.{Ruling}
 use Rattle.judge.specs.declared.Ruling.the-variants.{Pass, Keep, KeepNumbered}
 use Rattle.judge.proofs.Order.{granted-exactly, refused-exactly}
 use Rattle.counter.specs.Numbers.{top}
-use Rattle.history.specs.Machine.{pass, make, issue, undo, Desk, outcome, keepChange, issued, ruled, step}
+use Rattle.history.specs.Machine.{pass, make, issue, undo, Desk, outcome, opened, keepChange, issued, ruled, step}
 use Rattle.history.specs.Desk.{changeOf, verdictOf, deskRules}
 use Rattle.history.specs.declared.Answer.{Answer}
 use Rattle.promises.specs.Back.{TakenBack}
@@ -61,7 +61,7 @@ module _ (d : Desk House Change) (q : Request) where
 pub records-after : (d : Desk House Change) (c : Change) (n : ℕ) → keepChange deskRules d c n .current ≡ applied (d .current) c
 records-after d c n = Past.records-after deskRules d c n
 
--- ---- Demand 3, over any requests from any opening
+-- ---- Demand 3, over any requests from any records and last number
 module _ (h : House) (q : Request) where
   shown-pass : (r : Ruling) → rulingOf h q ≡ r → verdictOf q r ≡ pass → grantShows q (grantOf q) ≡ nothing
   shown-pass (Ruling.Refused r) e w = differ cc
@@ -101,28 +101,32 @@ shows = record {
   undone = λ h q e. shown-back h q (rulingOf h q) refl e;
 }
 
-module _ (last : ℕ) (qs : List Request) where
-  -- "the records equal those got by starting empty and applying, in order, every granted change that wasn't taken back, each with the draft number it
-  -- received": against the book of survivors ..
-  pub by-the-book : reachedDesk last qs .current ≡ foldl applied emptyHouse (bookAfter deskRules (blank last) qs .survivors)
-  by-the-book = records-are-survivors deskRules last qs
+module _ (h : House) (last : ℕ) (qs : List Request) where
+  -- "the records equal those got by starting" from the records that the desk opened with "and applying, in order, every granted change that wasn't taken
+  -- back, each with the draft number it received": against the book of survivors ..
+  pub by-the-book : reachedDesk h last qs .current ≡ foldl applied h (bookAfter deskRules h (blank last) qs .survivors)
+  by-the-book = records-are-survivors deskRules h last qs
 
   -- .. and over requests and answers alone
-  pub by-the-answers : reachedDesk last qs .current ≡ foldl applied emptyHouse (survive [] (events eventOf qs (answersFrom last qs)))
-  by-the-answers = records-are-shown deskRules eventOf shows last qs
+  pub by-the-answers : reachedDesk h last qs .current ≡ foldl applied h (survive [] (events eventOf qs (answersFrom h last qs)))
+  by-the-answers = records-are-shown deskRules eventOf shows h last qs
 
   -- "Each draft number is larger than all before it, taken-back ones included", and larger than the opening number
-  pub rising : Rising last (numbers (answersFrom last qs))
-  rising = numbers-rise deskRules last qs
+  pub rising : Rising last (numbers (answersFrom h last qs))
+  rising = numbers-rise deskRules h last qs
 
-  module _ (u : ℕ) (all : AllHold (linesOf (reachedDesk last qs .current) (TakeBack u))) where
-    allowed-back : deskRules .judge (reachedDesk last qs .current) (TakeBack u) ≡ undo
-    allowed-back = ap (verdictOf (TakeBack u)) (allowed (reachedDesk last qs) (TakeBack u) Ruling.TakeBack refl all)
+  module _ (u : ℕ) (all : AllHold (linesOf (reachedDesk h last qs .current) (TakeBack u))) where
+    allowed-back : deskRules .judge (reachedDesk h last qs .current) (TakeBack u) ≡ undo
+    allowed-back = ap (verdictOf (TakeBack u)) (allowed (reachedDesk h last qs) (TakeBack u) Ruling.TakeBack refl all)
 
     -- a take-back by an administrator: "refused for want of one exactly when none of the last 32 is left by the counting rule" ..
-    pub no-change-left : keptNow last qs ≡ 0 → step deskRules (reachedDesk last qs) (TakeBack u) ≡ outcome (reachedDesk last qs) (Answer.Refused 12)
-    no-change-left none = none-to-take-back deskRules eventOf shows last qs (TakeBack u) allowed-back none
+    pub no-change-left : keptNow h last qs ≡ 0 → step deskRules (reachedDesk h last qs) (TakeBack u) ≡ outcome (reachedDesk h last qs) (Answer.Refused 12)
+    no-change-left none = none-to-take-back deskRules eventOf shows h last qs (TakeBack u) allowed-back none
 
     -- .. else the newest kept change goes and no other, and the number stays
-    pub newest-goes : (keptNow last qs ≡ 0 → ⊥) → TakenBack deskRules (reachedDesk last qs) (step deskRules (reachedDesk last qs) (TakeBack u))
-    newest-goes some = take-back-granted deskRules eventOf shows last qs (TakeBack u) allowed-back some
+    pub newest-goes : (keptNow h last qs ≡ 0 → ⊥) → TakenBack deskRules (reachedDesk h last qs) (step deskRules (reachedDesk h last qs) (TakeBack u))
+    newest-goes some = take-back-granted deskRules eventOf shows h last qs (TakeBack u) allowed-back some
+
+-- 02: "An opened image has a kept count of 0": whatever a desk opened with, a take-back by an administrator right after that is 12
+pub back-at-opening : (h : House) (last u : ℕ) → AllHold (linesOf h (TakeBack u)) → step deskRules (opened h last) (TakeBack u) ≡ outcome (opened h last) (Answer.Refused 12)
+back-at-opening h last u all = no-change-left h last [] u all refl

@@ -5,7 +5,7 @@ use mathlib.Core.Path.{_≡_, sym, ap, _∙_}
 use mathlib.Core.List.{List}
 use lib.ListN.{length}
 use Rattle.request.specs.declared.Request.{Request}
-use Rattle.records.specs.House.{House, view}
+use Rattle.records.specs.House.{House, view, emptyHouse}
 use Rattle.effects.specs.declared.Change.{Change}
 use Rattle.counter.specs.Numbers.{nextAfter, lastAfter}
 use Rattle.counter.specs.declared.Counter.{Counter}
@@ -50,7 +50,7 @@ pub one-issued : (last : ℕ) (r s : Issued)
 one-issued last r s p q = λ i. record { next = determined (p .0) (q .0) i; last = determined (p .1) (q .1) i }
 
 -- two results of history::open: one-opened
-pub one-opened : (last : ℕ) (r s : Desk) → shownOf r ≡ opened deskRules last → shownOf s ≡ opened deskRules last → shownOf r ≡ shownOf s
+pub one-opened : (last : ℕ) (r s : Desk) → shownOf r ≡ opened emptyHouse last → shownOf s ≡ opened emptyHouse last → shownOf r ≡ shownOf s
 one-opened last r s p q = determined p q
 
 -- d₁ and d₂ are what `shown` shows of the parts at exit

@@ -9,7 +9,7 @@ use lib.Dec.{eqb, leb}
 use lib.ListN.{length}
 use borrow.Author.Tests.{eqb-true, eq-eqb, leb-true, ltb-true, not-true}
 use Rattle.records.specs.Places.{has}
-use Rattle.records.specs.House.{House, emptyHouse, house, staff, outsider, user, script}
+use Rattle.records.specs.House.{House, house, staff, outsider, user, script}
 use Rattle.records.specs.declared.User.{User}
 use Rattle.request.specs.declared.Request.{Request}
 use Rattle.request.specs.declared.Request.the-variants.{Enrol, Establish, JoinStaff, LeaveStaff, JoinOutsider, LeaveOutsider, Add, Remove, Import, Merge, Disband, OpenInRoom, OpenInHouse, OpenReadOnly, Read, Update, Create, Kill, TakeBack}
@@ -24,7 +24,6 @@ use Rattle.judge.specs.Kinds.{enrolWhere, establishLines, importLines, disbandL
 use Rattle.rules.specs.Rules.{rules}
 use Rattle.rules.specs.Facts.{RoomNumber, LabelFits, Administered, Rules}
 use Rattle.promises.specs.Fits.{bytes, twoBytes, fits}
-use Rattle.rules.proofs.Empty.{empty-meets}
 use Rattle.rules.proofs.Bools.{clash, right, itself, equal, _and_, _then_}
 use Rattle.rules.proofs.Meaning.{rules-are}
 use Rattle.promises.proofs.Granted.{Hold, conditions}
@@ -127,10 +126,6 @@ module _ (h : House) (last : ℕ) (R : Rules h last) where
   next n (TakeBack u) w f = tt
 
 -- ---- the theorems, on the test of the record rules
--- a desk opens with no records, which meet the rules
-pub empty : (last : ℕ) → last ≤ 4294967295 → rules emptyHouse last ≡ true
-empty = empty-meets
-
 module _ (h : House) (last : ℕ) (meets : rules h last ≡ true) where
   R : Rules h last
   R = rules-are h last .says meets

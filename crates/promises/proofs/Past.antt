@@ -90,8 +90,8 @@ module _ {S C Q : Type 0} (R : Rulebook S C Q) where
   abbrev pub lessNewest : Desk S C → S
   lessNewest d = changed R (d .base) (take (length (d .log) - 1) (d .log))
 
-  pub sound-opened : (G : S → Type 0) (n : ℕ) → G (R .none) → Sound G (opened R n)
-  sound-opened G n g = record { made = refl; each = λ k. rw (take-nil {A = C} k) g }
+  pub sound-opened : (G : S → Type 0) (s : S) (n : ℕ) → G s → Sound G (opened s n)
+  sound-opened G s n g = record { made = refl; each = λ k. rw (take-nil {A = C} k) g }
 
   module _ (G : S → Type 0) (d : Desk S C) (H : Sound G d) where
     pub now-holds : G (d .current)

@@ -22,7 +22,7 @@ use Rattle.promises.specs.Events.{reachedDesk}
 use Rattle.promises.specs.Fits.{fits}
 use Rattle.rules.proofs.Bools.{left, right}
 use Rattle.rules.proofs.Meaning.{rules-are}
-use Rattle.promises.proofs.Kept.{empty, kept, kept-numbered, later}
+use Rattle.promises.proofs.Kept.{kept, kept-numbered, later}
 use Rattle.promises.proofs.Past.{last-after, Sound, sound-opened, now-holds, sound-keep, sound-back}
 use Rattle.promises.proofs.Ways.{Way, by-rule, no-number, no-change, read, plain, with-number, back, way}
 
@@ -70,6 +70,7 @@ runs : (d : Desk House Change) → Fine d → (qs : List Request) → all fits q
 runs d S [] w = S
 runs d S (q ∷ qs) w = runs (step deskRules d q .desk) (steps d S q (left (fits q) (all fits qs) w)) qs (right (fits q) (all fits qs) w)
 
--- the records that any requests lead to, from any last number already used, meet the rules with the last number issued then
-pub reached : (n : ℕ) → n ≤ top → (qs : List Request) → all fits qs ≡ true → rules (reachedDesk n qs .current) (reachedDesk n qs .last) ≡ true
-reached n l qs w = meets (reachedDesk n qs) (runs (opened deskRules n) (sound-opened deskRules (Meets n) n (empty n l)) qs w)
+-- where the records and the last number that a desk opens with meet the rules, so do those that any requests lead to
+pub reached : (h : House) (last : ℕ) → rules h last ≡ true → (qs : List Request) → all fits qs ≡ true
+    → rules (reachedDesk h last qs .current) (reachedDesk h last qs .last) ≡ true
+reached h last m qs w = meets (reachedDesk h last qs) (runs (opened h last) (sound-opened deskRules (Meets last) h last m) qs w)

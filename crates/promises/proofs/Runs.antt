@@ -1,4 +1,4 @@
--- Demand 3 over any run of requests from an opening: the records, the answers, the take-backs and the numbers.
+-- Demand 3 over any run of requests from any opening: the records, the answers, the take-backs and the numbers.
 use mathlib.Core.Path.{_≡_, refl, sym, subst}
 use mathlib.Core.Bool.{Bool, true, false, cond}
 use mathlib.Core.List.{List, [], _∷_}
@@ -24,25 +24,26 @@ next-larger last n e = by-top (eqb last top) e
     by-top true e = differ cc
     by-top false e = let m : last + 1 ≡ n = cc in omega arith
 
-module _ {S C Q : Type 0} (R : Rulebook S C Q) where
+module _ {S C Q : Type 0} (R : Rulebook S C Q) (start : S) where
   -- the desk and the book agree after any run
-  pub run-agrees : (d : Desk S C) (b : Book C) → Agrees R d b → (qs : List Q) → Agrees R (run R d qs) (bookAfter R b qs)
+  pub run-agrees : (d : Desk S C) (b : Book C) → Agrees R start d b → (qs : List Q) → Agrees R start (run R d qs) (bookAfter R start b qs)
   run-agrees d b a [] = a
-  run-agrees d b a (q ∷ qs) = run-agrees (step R d q .desk) (note R b q .book) (step-same R d b a q .agrees) qs
+  run-agrees d b a (q ∷ qs) = run-agrees (step R d q .desk) (note R start b q .book) (step-same R start d b a q .agrees) qs
 
-  pub run-answers : (d : Desk S C) (b : Book C) → Agrees R d b → (qs : List Q) → answers R d qs ≡ bookAnswers R b qs
+  pub run-answers : (d : Desk S C) (b : Book C) → Agrees R start d b → (qs : List Q) → answers R d qs ≡ bookAnswers R start b qs
   run-answers d b a [] = refl
   run-answers d b a (q ∷ qs) =
-      let s = step-same R d b a q in
-      (λ i. s .answers i ∷ run-answers (step R d q .desk) (note R b q .book) (s .agrees) qs i)
+      let s = step-same R start d b a q in
+      (λ i. s .answers i ∷ run-answers (step R d q .desk) (note R start b q .book) (s .agrees) qs i)
 
-  -- "the records equal those got by starting empty and applying, in order, every granted change that wasn't taken back, each with the draft number it received"
-  pub records-are-survivors : (last : ℕ) (qs : List Q) → run R (opened R last) qs .current ≡ changed R (R .none) (bookAfter R (blank last) qs .survivors)
-  records-are-survivors last qs = run-agrees (opened R last) (blank last) (opened-agrees R last) qs .now
+  -- "the records equal those got by starting" from the records that the desk opened with "and applying, in order, every granted change that wasn't taken
+  -- back, each with the draft number it received"
+  pub records-are-survivors : (last : ℕ) (qs : List Q) → run R (opened start last) qs .current ≡ changed R start (bookAfter R start (blank last) qs .survivors)
+  records-are-survivors last qs = run-agrees (opened start last) (blank last) (opened-agrees R start last) qs .now
 
   -- the book gives every answer that the desk gives
-  pub answers-are-the-books : (last : ℕ) (qs : List Q) → answers R (opened R last) qs ≡ bookAnswers R (blank last) qs
-  answers-are-the-books last qs = run-answers (opened R last) (blank last) (opened-agrees R last) qs
+  pub answers-are-the-books : (last : ℕ) (qs : List Q) → answers R (opened start last) qs ≡ bookAnswers R start (blank last) qs
+  answers-are-the-books last qs = run-answers (opened start last) (blank last) (opened-agrees R start last) qs
 
   -- ---- "Each draft number is larger than all before it, taken-back ones included."
   rising-step : (b : Book C) (v : Verdict C) (more : Book C → List Answer) → ((c : Book C) → Rising (c .last) (numbers (more c)))
@@ -62,10 +63,10 @@ module _ {S C Q : Type 0} (R : Rulebook S C Q) where
       by-count true = later b
       by-count false = later (struck R b)
 
-  book-rising : (b : Book C) (qs : List Q) → Rising (b .last) (numbers (bookAnswers R b qs))
+  book-rising : (b : Book C) (qs : List Q) → Rising (b .last) (numbers (bookAnswers R start b qs))
   unfolding note
   book-rising b [] = tt
-  book-rising b (q ∷ qs) = rising-step b (R .judge (recordsOf R b) q) (λ c. bookAnswers R c qs) (λ c. book-rising c qs)
+  book-rising b (q ∷ qs) = rising-step b (R .judge (recordsOf R start b) q) (λ c. bookAnswers R start c qs) (λ c. book-rising c qs)
 
-  pub numbers-rise : (last : ℕ) (qs : List Q) → Rising last (numbers (answers R (opened R last) qs))
+  pub numbers-rise : (last : ℕ) (qs : List Q) → Rising last (numbers (answers R (opened start last) qs))
   numbers-rise last qs = subst (λ (l : List Answer). Rising last (numbers l)) (sym (answers-are-the-books last qs)) (book-rising (blank last) qs)

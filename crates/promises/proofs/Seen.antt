@@ -1,15 +1,15 @@
--- A number once seen never names another text: over any run from any opening.
+-- A number once seen never names another text: over any run from any records and last number that meet the record rules.
 use Prim.Native.Nat.{ℕ, zero, suc, _+_, _<_}
 use mathlib.Core.Path.{_≡_, refl, sym, ap, subst, _∙_}
 use mathlib.Core.Bool.{Bool, true, false, cond}
 use mathlib.Core.List.{List, [], _∷_, _++_, map}
 use mathlib.Core.Logic.{_⊎_, inl, inr}
 use native.Mathlib.Omega.{arith}
-use lib.ListN.{length, take}
+use lib.ListN.{length, getD, take}
 use Rattle.request.specs.declared.Request.{Request}
 use Rattle.request.specs.declared.Request.the-variants.{Enrol, Establish, JoinStaff, LeaveStaff, JoinOutsider, LeaveOutsider, Add, Remove, Import, Merge, Disband, OpenInRoom, OpenInHouse, OpenReadOnly, Read, Update, Create, Kill, TakeBack}
 use Rattle.request.proofs.Absurd.{differ}
-use Rattle.records.specs.House.{House, emptyHouse, house, noDraft, session, draftAt, putDraft, addDraft}
+use Rattle.records.specs.House.{House, house, noDraft, session, draftAt, putDraft, addDraft}
 use Rattle.records.specs.Lookups.{findDraft, atFound, placed}
 use Rattle.records.specs.Places.{only}
 use Rattle.records.specs.declared.Draft.{Draft}
@@ -25,12 +25,14 @@ use Rattle.history.specs.Desk.{changeOf, deskRules}
 use Rattle.history.specs.declared.Answer.{Answer}
 use Rattle.history.specs.declared.Answer.the-variants.{Granted, Numbered, Refused}
 use Rattle.rules.specs.Lists.{Each}
+use Rattle.rules.specs.Rules.{rules}
 use Rattle.promises.specs.Book.{numbers, Rising}
 use Rattle.promises.specs.Events.{answersFrom}
-use Rattle.promises.specs.Seen.{Makes, by-import, by-update, by-create, requestNo, answerAt, moment, MadeAt, MadeBefore, SameText}
+use Rattle.promises.specs.Seen.{Makes, by-import, by-update, by-create, requestNo, answerAt, moment, OpenedWith, Making, before-opening, by-request, MadeIn, MadeBefore, SameText}
 use Rattle.rules.proofs.Lists.{each-imp, each-at, each-anew, each-map, each-keep, each-more, each-take}
 use Rattle.promises.proofs.Past.{Sound, sound-opened, now-holds, sound-more, sound-keep, sound-back}
 use Rattle.promises.proofs.Demands.{rising}
+use Rattle.promises.proofs.Numbers.{from-one-to-last, no-two-alike}
 use Rattle.promises.proofs.Ways.{Way, by-rule, no-number, no-change, read, plain, with-number, back, way}
 
 -- ---- each number is given at most once
@@ -57,8 +59,9 @@ once-given last (Numbered n ∷ l) r (suc i) zero m e f = let z : n ≡ m = cc i
 once-given last (Numbered n ∷ l) r (suc i) (suc j) m e f = ap suc (once-given n l (r .1) i j m e f)
 
 -- two answers of a run with the same number are one answer
-pub given-once : (n : ℕ) (qs : List Request) (i j m : ℕ) → answerAt (answersFrom n qs) i ≡ Numbered m → answerAt (answersFrom n qs) j ≡ Numbered m → i ≡ j
-given-once n qs = once-given n (answersFrom n qs) (rising n qs)
+pub given-once : (h : House) (last : ℕ) (qs : List Request) (i j m : ℕ) → answerAt (answersFrom h last qs) i ≡ Numbered m → answerAt (answersFrom h last qs) j ≡ Numbered m
+    → i ≡ j
+given-once h last qs = once-given last (answersFrom h last qs) (rising h last qs)
 
 -- ---- the drafts after a change: those before it, by number and script, or the one that it makes
 module _ (P : ℕ → ℕ → Type 0) where
@@ -212,45 +215,75 @@ one-script q s t (by-create x e) (by-import u′ s₁′ v′ room′ f) = diffe
 one-script q s t (by-create x e) (by-update x′ v′ f) = differ cc
 one-script q s t (by-create x e) (by-create x′ f) = cc
 
-abbrev none-yet : ℕ → ℕ → Type 0
-none-yet n s = ⊥
+-- what holds at each place of a list holds of each
+each-place : {A : Type 0} (P : A → Type 0) (d : A) (l : List A) → ((i : ℕ) → i < length l → P (getD l i d)) → Each P l
+each-place P d [] f = tt
+each-place P d (x ∷ xs) f = (f 0 (omega arith), each-place P d xs (λ i k. f (suc i) (omega arith)))
 
-module _ (n : ℕ) (qs : List Request) where
-  -- every draft live at any moment was made by the one request that was answered with its number, and is of that request's script
-  pub live-made : (k : ℕ) → Each (MadeBefore n qs k) (moment n qs k .drafts)
-  unfolding emptyHouse
+module _ (h : House) (last : ℕ) (meets : rules h last ≡ true) (qs : List Request) where
+  -- no request is ever answered with the number of a draft that the desk opened with
+  pub not-given-again : (v s j : ℕ) → OpenedWith h v s → answerAt (answersFrom h last qs) j ≡ Numbered v → ⊥
+  not-given-again v s j o e =
+      let low = from-one-to-last h last meets (o .place) (o .live) .up-to in
+      absurd (omega (arith, low, o .has-number, above last (answersFrom h last qs) (rising h last qs) j v e))
+
+  -- every draft live at any moment was there at the opening, or was made by the one request that was answered with its number; it is of that script still
+  pub live-made : (k : ℕ) → Each (MadeBefore h last qs k) (moment h last qs k .drafts)
   live-made k =
-      each-imp (Of from) (MadeBefore n qs k) (moment n qs k .drafts) (λ d m. told d m)
-      (now-holds deskRules (Drafts from) (run deskRules (opened deskRules n) (take k qs))
-      (run-seen none-yet (opened deskRules n) (take k qs) (sound-opened deskRules (Drafts none-yet) n tt)))
+      each-imp (Of from) (MadeBefore h last qs k) (moment h last qs k .drafts) (λ d m. told d m)
+      (now-holds deskRules (Drafts from) (run deskRules (opened h last) (take k qs))
+      (run-seen (OpenedWith h) (opened h last) (take k qs) (sound-opened deskRules (Drafts (OpenedWith h)) h last there)))
     where
       from : ℕ → ℕ → Type 0
-      from = Since none-yet (opened deskRules n) (take k qs)
+      from = Since (OpenedWith h) (opened h last) (take k qs)
 
-      told : (d : Draft) → Of from d → MadeBefore n qs k d
-      told d (inl m) = absurd m
+      there : Drafts (OpenedWith h) h
+      there = each-place (Of (OpenedWith h)) noDraft (h .drafts) (λ i l. record { place = i; live = l; has-number = refl; of-script = refl })
+
+      told : (d : Draft) → Of from d → MadeBefore h last qs k d
+      told d (inl o) = record { making = before-opening; before = tt; made = o; alone = λ j e. absurd (not-given-again (d .number) (d .script) j o e) }
       told d (inr m) =
-          let b = answered-before (opened deskRules n) k qs (m .place) (d .number) (m .answered) in
+          let b = answered-before (opened h last) k qs (m .place) (d .number) (m .answered) in
           record {
-            place = m .place;
+            making = by-request (m .place);
             before = b .0;
             made = record { answered = b .1; for-script = makes-before k qs (m .place) (d .script) (m .for-script) };
-            alone = λ j e. given-once n qs j (m .place) (d .number) e (b .1);
+            alone = λ j e. ap by-request (given-once h last qs j (m .place) (d .number) e (b .1));
           }
 
-  -- so a number live at two moments names a draft of the same script, made by the same request
-  pub same-text : (k l i j : ℕ) → i < length (moment n qs k .drafts) → j < length (moment n qs l .drafts)
-      → draftAt (moment n qs k) i .number ≡ draftAt (moment n qs l) j .number → SameText n qs (draftAt (moment n qs k) i) (draftAt (moment n qs l) j)
+  -- a number names one text, wherever it was made
+  one-text : (c d : Draft) → c .number ≡ d .number → (m : Making) → MadeIn h last qs (c .number) (c .script) m → MadeIn h last qs (d .number) (d .script) m
+      → c .script ≡ d .script
+  one-text c d e before-opening one other =
+      let same = no-two-alike h last meets (one .place) (other .place) (one .live) (other .live) (one .has-number ∙ e ∙ sym (other .has-number)) in
+      sym (one .of-script) ∙ ap (λ (i : ℕ). draftAt h i .script) same ∙ other .of-script
+  one-text c d e (by-request i) one other = one-script (requestNo qs i) (c .script) (d .script) (one .for-script) (other .for-script)
+
+  -- so a number live at two moments names a draft of the same script and the same making
+  pub same-text : (k l i j : ℕ) → i < length (moment h last qs k .drafts) → j < length (moment h last qs l .drafts)
+      → draftAt (moment h last qs k) i .number ≡ draftAt (moment h last qs l) j .number → SameText h last qs (draftAt (moment h last qs k) i) (draftAt (moment h last qs l) j)
   same-text k l i j p q e =
-      let c = draftAt (moment n qs k) i in
-      let d = draftAt (moment n qs l) j in
-      let a = each-at (MadeBefore n qs k) (moment n qs k .drafts) noDraft i p (live-made k) in
-      let b = each-at (MadeBefore n qs l) (moment n qs l .drafts) noDraft j q (live-made l) in
-      let together : b .place ≡ a .place = a .alone (b .place) (b .made .answered ∙ ap Numbered (sym e)) in
-      let other = subst (MadeAt n qs (d .number) (d .script)) together (b .made) in
-      record {
-        place = a .place;
-        one = a .made;
-        other = other;
-        same-script = one-script (requestNo qs (a .place)) (c .script) (d .script) (a .made .for-script) (other .for-script);
-      }
+      together (each-at (MadeBefore h last qs k) (moment h last qs k .drafts) noDraft i p (live-made k))
+      (each-at (MadeBefore h last qs l) (moment h last qs l .drafts) noDraft j q (live-made l))
+    where
+      c : Draft
+      c = draftAt (moment h last qs k) i
+
+      d : Draft
+      d = draftAt (moment h last qs l) j
+
+      together : MadeBefore h last qs k c → MadeBefore h last qs l d → SameText h last qs c d
+      together a b = go (a .making) refl (b .making) refl
+        where
+          one-making : a .making ≡ b .making → SameText h last qs c d
+          one-making same =
+              let other = subst (MadeIn h last qs (d .number) (d .script)) (sym same) (b .made) in
+              record { making = a .making; one = a .made; other = other; same-script = one-text c d e (a .making) (a .made) other }
+
+          made-as : {x y : Making} → x ≡ y → (v s : ℕ) → MadeIn h last qs v s x → MadeIn h last qs v s y
+          made-as z v s m = subst (MadeIn h last qs v s) z m
+
+          go : (x : Making) → a .making ≡ x → (y : Making) → b .making ≡ y → SameText h last qs c d
+          go before-opening u before-opening w = one-making (u ∙ sym w)
+          go x u (by-request n) w = one-making (sym (a .alone n (made-as w (d .number) (d .script) (b .made) .answered ∙ ap Numbered (sym e))) ∙ sym w)
+          go (by-request n) u before-opening w = one-making (u ∙ b .alone n (made-as u (c .number) (c .script) (a .made) .answered ∙ ap Numbered e))

@@ -1,4 +1,5 @@
--- What the desk has to do, in the user's words: a book of every granted change that was not taken back, the kept count by 01's rule, and the last number.
+-- What the desk has to do, in the user's words: a book of every granted change since the opening that was not taken back, the kept count by 01's rule, and
+-- the last number.
 use mathlib.Core.Bool.{cond}
 use mathlib.Core.Path.{_≡_}
 use mathlib.Core.List.{List, [], _∷_, _++_, foldl}
@@ -28,10 +29,6 @@ abbrev pub blank : {C : Type 0} → ℕ → Book C
 blank n = record { survivors = []; count = 0; last = n }
 
 module _ {S C Q : Type 0} (R : Rulebook S C Q) where
-  -- "the records equal those got by starting empty and applying, in order, every granted change that wasn't taken back"
-  abbrev pub recordsOf : Book C → S
-  recordsOf b = foldl (R .apply) (R .none) (b .survivors)
-
   -- "The kept count .. rises by one with each such grant to at most 32"
   abbrev pub enter : Book C → C → ℕ → Book C
   enter b c n = record { survivors = b .survivors ++ (c ∷ []); count = min (b .count + 1) 32; last = n }
@@ -54,17 +51,24 @@ module _ {S C Q : Type 0} (R : Rulebook S C Q) where
   noted b (issue f) = enterNumbered b f (nextAfter (b .last))
   noted b undo = strike b
 
-  -- one request: judged against the records that the book says
-  unfoldable pub note : Book C → Q → Entry C
-  note b q = noted b (R .judge (recordsOf b) q)
+  -- the book of a desk that opened with the records `start`
+  module _ (start : S) where
+    -- "the records equal those got by starting empty and applying, in order, every granted change that wasn't taken back"; 02: "demand 3 then starts from
+    -- the image": starting from the records that the desk opened with
+    abbrev pub recordsOf : Book C → S
+    recordsOf b = foldl (R .apply) start (b .survivors)
 
-  abbrev pub bookAfter : Book C → List Q → Book C
-  bookAfter b [] = b
-  bookAfter b (q ∷ qs) = bookAfter (note b q .book) qs
+    -- one request: judged against the records that the book says
+    unfoldable pub note : Book C → Q → Entry C
+    note b q = noted b (R .judge (recordsOf b) q)
 
-  abbrev pub bookAnswers : Book C → List Q → List Answer
-  bookAnswers b [] = []
-  bookAnswers b (q ∷ qs) = note b q .answer ∷ bookAnswers (note b q .book) qs
+    abbrev pub bookAfter : Book C → List Q → Book C
+    bookAfter b [] = b
+    bookAfter b (q ∷ qs) = bookAfter (note b q .book) qs
+
+    abbrev pub bookAnswers : Book C → List Q → List Answer
+    bookAnswers b [] = []
+    bookAnswers b (q ∷ qs) = note b q .answer ∷ bookAnswers (note b q .book) qs
 
 -- ---- the numbers given out in a run, in order, those of changes taken back among them
 abbrev pub numbers : List Answer → List ℕ

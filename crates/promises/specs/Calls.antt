@@ -1,4 +1,5 @@
--- Desks that bytes reach: an opening, then any calls of the batch, each with any bytes, any buffer and any place; and what is promised of them.
+-- Desks that bytes reach: an opening with any records and last number, then any calls of the batch, each with any bytes, any buffer and any place; and what
+-- is promised of them.
 use Prim.Native.Nat.{ℕ, _-_}
 use mathlib.Core.Bool.{true}
 use mathlib.Core.Path.{_≡_}
@@ -7,7 +8,7 @@ use lib.ListN.{length}
 use Rattle.request.specs.Bytes.{Bytes}
 use Rattle.request.specs.declared.Request.{Request}
 use Rattle.request.specs.declared.Request.the-variants.{TakeBack}
-use Rattle.records.specs.House.{emptyHouse}
+use Rattle.records.specs.House.{House}
 use Rattle.effects.specs.Effects.{applied}
 use Rattle.reasons.specs.Asking.{AllHold}
 use Rattle.judge.specs.Kinds.{linesOf}
@@ -46,21 +47,23 @@ abbrev pub takenIn : State → List Call → List Request
 takenIn d [] = []
 takenIn d (c ∷ cs) = let qs : List Request = taken d (c .requests) (roomOf c) in qs ++ takenIn (run deskRules d qs) cs
 
--- ---- what is promised of the desk d that requests lead to from an opening: demand 3, what the user fears, and the record rules
-pub record Promised (last : ℕ) (qs : List Request) (d : State) : Type 0 where
+-- ---- what is promised of the desk d that requests lead to from an opening with the records h and the last number `last`: demand 3, what the user fears, and
+-- the record rules
+pub record Promised (h : House) (last : ℕ) (qs : List Request) (d : State) : Type 0 where
   -- "the records equal those got by starting empty and applying, in order, every granted change that wasn't taken back, each with the draft number it
-  -- received": by the book of survivors, and by requests and answers alone
-  pub by-the-book : d .current ≡ foldl applied emptyHouse (bookAfter deskRules (blank last) qs .survivors)
-  pub by-the-answers : d .current ≡ foldl applied emptyHouse (survive [] (events eventOf qs (answersFrom last qs)))
+  -- received", and "demand 3 then starts from the image": starting from h; by the book of survivors, and by requests and answers alone
+  pub by-the-book : d .current ≡ foldl applied h (bookAfter deskRules h (blank last) qs .survivors)
+  pub by-the-answers : d .current ≡ foldl applied h (survive [] (events eventOf qs (answersFrom h last qs)))
   -- "Each draft number is larger than all before it, taken-back ones included"
-  pub rising : Rising last (numbers (answersFrom last qs))
+  pub rising : Rising last (numbers (answersFrom h last qs))
   -- "refused for want of one exactly when none of the last 32 is left by the counting rule", else "the newest kept change" goes
-  pub no-change-left : (u : ℕ) → AllHold (linesOf (d .current) (TakeBack u)) → keptNow last qs ≡ 0 → step deskRules d (TakeBack u) ≡ outcome d (Answer.Refused 12)
-  pub newest-goes : (u : ℕ) → AllHold (linesOf (d .current) (TakeBack u)) → (keptNow last qs ≡ 0 → ⊥) → TakenBack deskRules d (step deskRules d (TakeBack u))
+  pub no-change-left : (u : ℕ) → AllHold (linesOf (d .current) (TakeBack u)) → keptNow h last qs ≡ 0 → step deskRules d (TakeBack u) ≡ outcome d (Answer.Refused 12)
+  pub newest-goes : (u : ℕ) → AllHold (linesOf (d .current) (TakeBack u)) → (keptNow h last qs ≡ 0 → ⊥) → TakenBack deskRules d (step deskRules d (TakeBack u))
   -- "leads close the wrong room .. and need it back as it stood"
   pub back-as-it-stood : (q : Request) (rs : List Request) (u : ℕ) → IsChange q → ThenBack d q rs u → AsItStood d q (step deskRules (atLast d q rs) (TakeBack u))
-  -- "a number once seen must never name another text": it is given once, and at each moment what bears it was made by the request that got it
-  pub given-once : (i j v : ℕ) → answerAt (answersFrom last qs) i ≡ Answer.Numbered v → answerAt (answersFrom last qs) j ≡ Answer.Numbered v → i ≡ j
-  pub live-made : (k : ℕ) → Each (MadeBefore last qs k) (moment last qs k .drafts)
+  -- "a number once seen must never name another text": it is given once, and at each moment what bears it was made by the request that got it, or before
+  -- the opening, and then no request gets it
+  pub given-once : (i j v : ℕ) → answerAt (answersFrom h last qs) i ≡ Answer.Numbered v → answerAt (answersFrom h last qs) j ≡ Answer.Numbered v → i ≡ j
+  pub live-made : (k : ℕ) → Each (MadeBefore h last qs k) (moment h last qs k .drafts)
   -- "Every desk reached from an opening meets these record rules"
   pub meets : rules (d .current) (d .last) ≡ true

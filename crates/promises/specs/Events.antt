@@ -26,13 +26,13 @@ eventOf q Answer.Granted = grantShows q (grantOf q)
 eventOf q (Answer.Numbered n) = kept (changeOf q n)
 eventOf q (Answer.Refused n) = nothing
 
--- ---- the requests qs from a desk opened with the last number n: the desk then, and the answers
-abbrev pub reachedDesk : ℕ → List Request → Desk House Change
-reachedDesk n qs = run deskRules (opened deskRules n) qs
+-- ---- the requests qs from a desk opened with the records h and the last number `last`: the desk then, and the answers
+abbrev pub reachedDesk : House → ℕ → List Request → Desk House Change
+reachedDesk h last qs = run deskRules (opened h last) qs
 
-abbrev pub answersFrom : ℕ → List Request → List Answer
-answersFrom n qs = answers deskRules (opened deskRules n) qs
+abbrev pub answersFrom : House → ℕ → List Request → List Answer
+answersFrom h last qs = answers deskRules (opened h last) qs
 
 -- the kept count by 01's rule, read off requests and answers
-abbrev pub keptNow : ℕ → List Request → ℕ
-keptNow n qs = keptCount 0 (events eventOf qs (answersFrom n qs))
+abbrev pub keptNow : House → ℕ → List Request → ℕ
+keptNow h last qs = keptCount 0 (events eventOf qs (answersFrom h last qs))

@@ -1,11 +1,11 @@
--- A number once seen never names another text: which request made a draft.
+-- A number once seen never names another text: where a draft was made.
 use Prim.Native.Nat.{ℕ, _<_}
 use mathlib.Core.Path.{_≡_}
 use mathlib.Core.List.{List}
-use lib.ListN.{getD, take}
+use lib.ListN.{length, getD, take}
 use Rattle.request.specs.declared.Request.{Request}
 use Rattle.request.specs.declared.Request.the-variants.{Import, Update, Create, TakeBack}
-use Rattle.records.specs.House.{House}
+use Rattle.records.specs.House.{House, draftAt}
 use Rattle.records.specs.declared.Draft.{Draft}
 use Rattle.history.specs.declared.Answer.{Answer}
 use Rattle.history.specs.declared.Answer.the-variants.{Numbered, Refused}
@@ -24,25 +24,48 @@ requestNo qs i = getD qs i (TakeBack 0)
 abbrev pub answerAt : List Answer → ℕ → Answer
 answerAt given i = getD given i (Refused 0)
 
--- the records after the first k requests of a run
-abbrev pub moment : ℕ → List Request → ℕ → House
-moment n qs k = reachedDesk n (take k qs) .current
+-- ---- a run from the records h and the last number that the desk opened with
+-- the records after its first k requests
+abbrev pub moment : House → ℕ → List Request → ℕ → House
+moment h last qs k = reachedDesk h last (take k qs) .current
+
+-- the desk opened with a draft of number v and script s
+pub record OpenedWith (h : House) (v s : ℕ) : Type 0 where
+  pub place : ℕ
+  pub live : place < length (h .drafts)
+  pub has-number : draftAt h place .number ≡ v
+  pub of-script : draftAt h place .script ≡ s
 
 -- request i of the run was answered with number v, and makes a draft of script s
-pub record MadeAt (n : ℕ) (qs : List Request) (v s i : ℕ) : Type 0 where
-  pub answered : answerAt (answersFrom n qs) i ≡ Numbered v
+pub record MadeAt (h : House) (last : ℕ) (qs : List Request) (v s i : ℕ) : Type 0 where
+  pub answered : answerAt (answersFrom h last qs) i ≡ Numbered v
   pub for-script : Makes (requestNo qs i) s
 
--- a draft live after the first k requests was made by one of them, the only one of the run that was answered with its number
-pub record MadeBefore (n : ℕ) (qs : List Request) (k : ℕ) (d : Draft) : Type 0 where
-  pub place : ℕ
-  pub before : place < k
-  pub made : MadeAt n qs (d .number) (d .script) place
-  pub alone : (j : ℕ) → answerAt (answersFrom n qs) j ≡ Numbered (d .number) → j ≡ place
+-- where a draft was made: before the desk opened, or by the request i of the run
+pub data Making : Type 0 where
+  before-opening : Making
+  by-request : ℕ → Making
 
--- two drafts are of the same script, made by the same request
-pub record SameText (n : ℕ) (qs : List Request) (c d : Draft) : Type 0 where
-  pub place : ℕ
-  pub one : MadeAt n qs (c .number) (c .script) place
-  pub other : MadeAt n qs (d .number) (d .script) place
+-- the draft of number v and script s was made there
+abbrev pub MadeIn : House → ℕ → List Request → ℕ → ℕ → Making → Type 0
+MadeIn h last qs v s before-opening = OpenedWith h v s
+MadeIn h last qs v s (by-request i) = MadeAt h last qs v s i
+
+-- and so before the desk had taken k requests
+abbrev pub Before : ℕ → Making → Type 0
+Before k before-opening = Unit {0}
+Before k (by-request i) = i < k
+
+-- a draft live after the first k requests: the desk opened with it, or one of them made it; no other request of the run is answered with its number
+pub record MadeBefore (h : House) (last : ℕ) (qs : List Request) (k : ℕ) (d : Draft) : Type 0 where
+  pub making : Making
+  pub before : Before k making
+  pub made : MadeIn h last qs (d .number) (d .script) making
+  pub alone : (j : ℕ) → answerAt (answersFrom h last qs) j ≡ Numbered (d .number) → by-request j ≡ making
+
+-- two drafts are of the same script and the same making: the desk opened with both, or the same request made them
+pub record SameText (h : House) (last : ℕ) (qs : List Request) (c d : Draft) : Type 0 where
+  pub making : Making
+  pub one : MadeIn h last qs (c .number) (c .script) making
+  pub other : MadeIn h last qs (d .number) (d .script) making
   pub same-script : c .script ≡ d .script

@@ -15,7 +15,7 @@ use Rattle.desk.proofs.run.Tie as tie
 
 abbrev Inv-loop : tie.InvT-loop
 Inv-loop why base₀ log₀ current₀ last₀ buf₀ out₀ ordinal₀ have₀ turns₀ t14 t15 base log current last buf out ordinal have turns =
-    Between why (shown base log current last) ordinal have turns buf out
+    Between why (shown base₀ log₀ current₀ last₀) (shown base log current last) ordinal have turns buf out
 
 abbrev μ-loop : tie.MeasureT-loop
 μ-loop why base₀ log₀ current₀ last₀ buf₀ out₀ ordinal₀ have₀ turns₀ t14 t15 base log current last buf out ordinal have turns =
@@ -24,7 +24,8 @@ abbrev μ-loop : tie.MeasureT-loop
 loop-holds : tie.Need-loop-holds Inv-loop μ-loop
 loop-holds c =
     let s = c .before .before in
-    at-start (s .args .why) (s .pre .0) (now (s .args .buf)) (now (s .args .out)) (s .pre .1 .0) (s .pre .1 .1)
+    let a = s .args in
+    at-start (a .why) (shown (now (a .base)) (now (a .log)) (now (a .current)) (now (a .last))) (now (s .args .buf)) (now (s .args .out)) (s .pre .1 .0) (s .pre .1 .1)
 
 answer-piece-requires : tie.Need-answer-piece-requires Inv-loop μ-loop
 answer-piece-requires c κs =
