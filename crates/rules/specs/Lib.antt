@@ -2,3 +2,4 @@
 pub mod Lists
 pub mod Rules
 pub mod Facts
+pub mod Walks
