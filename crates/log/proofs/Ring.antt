@@ -4,10 +4,10 @@ use mathlib.Core.Path.{_≡_, refl, sym, ap, _∙_}
 use mathlib.Core.List.{List, [], _∷_, _++_}
 use native.Mathlib.Omega.{arith}
 use native.Mathlib.Decide.{decLe}
-use lib.ListN.{length, getD, set, take, drop, length-append, length-take, length-drop, List·getD-append}
+use lib.ListN.{length, getD, set, take, drop, replicate, length-append, length-take, length-drop, List·getD-append}
 use lib.Seq.{getD-set-same, getD-set-other, ext-getD, getD-take, getD-drop, getD-at}
 use Rattle.records.specs.Tables.{at, putAt, tabulate}
-use Rattle.records.proofs.Tables.{Laid, length-tabulate, getD-tabulate, length-puts, same-put, put-here, put-other, same-set}
+use Rattle.records.proofs.Tables.{Laid, length-tabulate, getD-tabulate, length-puts, same-put, put-here, put-other, same-set, zeros-at}
 use Rattle.request.specs.Bytes.{_#_, quad}
 use Rattle.request.specs.Reading.{requestOf}
 use Rattle.request.specs.Writing.{framed}
@@ -45,6 +45,11 @@ change-laid = record {
 pub past-length : (s : List ℕ) → length (past s) ≡ min (s # 1) 32
 unfolding past
 past-length s = length-tabulate (min (s # 1) 32) (λ i. at changeTable s ((s # 0 + i) % 32))
+
+-- zeros show no change
+pub past-zeros : (n : ℕ) → past (replicate n 0) ≡ []
+unfolding past tabulate
+past-zeros n = ap (λ (k : ℕ). tabulate (min k 32) (λ i. at changeTable (replicate n 0) ((replicate n 0 # 0 + i) % 32))) (zeros-at n 1)
 
 pub past-at : (s : List ℕ) (i : ℕ) (d : Change) → i < length (past s) → getD (past s) i d ≡ at changeTable s ((s # 0 + i) % 32)
 unfolding past

@@ -1,6 +1,6 @@
 // The log of kept changes: the last 32 at most, each as its request's bytes and its number, in a ring of slots.
 ghost use mathlib.Core.Path.{_≡_};
-ghost use mathlib.Core.List.{foldl};
+ghost use mathlib.Core.List.{[], foldl};
 ghost use Prim.Native.Nat.{_<_, _≤_, _+_, _%_};
 ghost use lib.ListN.{length, getD};
 ghost use Rattle.records.specs.House.{view};
@@ -33,6 +33,13 @@ fn wide(byte: u8) -> usize
     ensures { λ r. ⌜ (r ≡ byte) × (r < 256) ⌝ }
 {
     byte as usize
+}
+
+// No change is kept.
+pub fn clear(log: &mut Log)
+    ensures { λ _. ⌜ past (now (log .exit)) ≡ [] ⌝ }
+{
+    *log = [0u8; 418];
 }
 
 // How many changes are kept: never more than 32, whatever the byte says.

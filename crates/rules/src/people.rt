@@ -34,7 +34,7 @@ fn rooms_there(records: &Cells, user: User) -> bool
 fn staff_if_trusted(user: User) -> bool
     ensures { λ r. ⌜ r ≡ staffIfTrusted user ⌝ }
 {
-    !(user.admin | !(user.leads == 0)) | (user.sort == 0)
+    !(user.admin | (user.leads != 0)) | (user.sort == 0)
 }
 
 fn bare_if_outsider(user: User) -> bool
@@ -50,7 +50,7 @@ fn user_keeps(records: &Cells, user: User) -> bool
 }
 
 // ---- of all of them
-pub fn users_keep(records: &Cells) -> bool
+pub(crate) fn users_keep(records: &Cells) -> bool
     ensures { λ r. ⌜ r ≡ all (userKeeps (view (now (records .entry)))) (view (now (records .entry)) .users) ⌝ }
 {
     'users: for i in 0..64 {
@@ -62,7 +62,7 @@ pub fn users_keep(records: &Cells) -> bool
     true
 }
 
-pub fn administered(records: &Cells) -> bool
+pub(crate) fn administered(records: &Cells) -> bool
     ensures { λ r. ⌜ r ≡ administered (view (now (records .entry))) ⌝ }
 {
     let mut anyone = false;
@@ -97,7 +97,7 @@ fn led_by_one(records: &Cells, room: u8) -> bool
     !records::has(records::rooms(records), room) | (count_leads(records, room) == 1)
 }
 
-pub fn one_lead(records: &Cells) -> bool
+pub(crate) fn one_lead(records: &Cells) -> bool
     ensures { λ r. ⌜ r ≡ oneLead (view (now (records .entry))) ⌝ }
 {
     'rooms: for room in 1..17 {

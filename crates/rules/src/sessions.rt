@@ -35,7 +35,7 @@ fn owned_well(owner: User, session: Session) -> bool
     ensures { λ r. ⌜ r ≡ ownedWell owner session ⌝ }
 {
     (!(session.place == 0) | (owner.sort == 0))
-        & (!!(session.place == 0) | records::has(owner.rooms, session.place))
+        & (!(session.place != 0) | records::has(owner.rooms, session.place))
         & (session.level <= owner.level)
         & ((owner.categories & session.categories) == session.categories)
 }
@@ -50,7 +50,7 @@ fn session_keeps(records: &Cells, session: Session) -> bool
 }
 
 // ---- of all of them
-pub fn sessions_keep(records: &Cells) -> bool
+pub(crate) fn sessions_keep(records: &Cells) -> bool
     ensures { λ r. ⌜ r ≡ all (sessionKeeps (view (now (records .entry)))) (view (now (records .entry)) .sessions) ⌝ }
 {
     'sessions: for i in 0..64 {

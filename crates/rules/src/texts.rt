@@ -67,7 +67,7 @@ fn in_its_room(records: &Cells, draft: Draft) -> bool
     ensures { λ r. ⌜ r ≡ inItsRoom (view (now (records .entry))) draft ⌝ }
 {
     let script = records::script_at(records, draft.script as usize);
-    !!(script.origin == 0) | (draft.places == records::with(0, script.origin))
+    !(script.origin != 0) | (draft.places == records::with(0, script.origin))
 }
 
 // Exactly one room.
@@ -92,7 +92,7 @@ fn at_home_or_one_room(records: &Cells, draft: Draft) -> bool
 fn placed(draft: Draft) -> bool
     ensures { λ r. ⌜ r ≡ placed draft ⌝ }
 {
-    !(draft.places == 0)
+    draft.places != 0
 }
 
 fn draft_keeps(records: &Cells, draft: Draft) -> bool
@@ -112,7 +112,7 @@ fn follows(draft: Draft, above: u32, last: u32) -> bool
 }
 
 // ---- of all of them
-pub fn scripts_keep(records: &Cells) -> bool
+pub(crate) fn scripts_keep(records: &Cells) -> bool
     ensures { λ r. ⌜ r ≡ (all (scriptKeeps (view (now (records .entry)))) (view (now (records .entry)) .scripts) && eachDrafted (view (now (records .entry)))) ⌝ }
 {
     'scripts: for i in 0..64 {
@@ -124,7 +124,7 @@ pub fn scripts_keep(records: &Cells) -> bool
     true
 }
 
-pub fn drafts_keep(records: &Cells, last: u32) -> bool
+pub(crate) fn drafts_keep(records: &Cells, last: u32) -> bool
     ensures { λ r. ⌜ r ≡ (all (draftKeeps (view (now (records .entry)))) (view (now (records .entry)) .drafts) && numbersRise (view (now (records .entry))) last) ⌝ }
 {
     let end = records::draft_count(records);
