@@ -1,1 +1,8 @@
 -- The laws of opening.
+pub mod Fields
+pub mod Fills
+pub mod Back
+pub mod Bounds
+pub mod Theorems
+pub mod Alike
+pub mod Ways

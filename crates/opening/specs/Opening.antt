@@ -29,12 +29,15 @@ pub record Opens : Type 0 where
   pub answer : Opening
   pub now : Saved
 
+abbrev pub opens : Opening → Saved → Opens
+opens answer s = record { answer = answer; now = s }
+
 -- "A refused image gives the empty desk with last number 0."
 abbrev pub refused : ℕ → Opens
-refused n = record { answer = Refused n; now = blank }
+refused n = opens (Refused n) blank
 
 abbrev pub accepted : Saved → Opens
-accepted s = record { answer = Opened; now = s }
+accepted s = opens Opened s
 
 abbrev pub sameBytes : List ℕ → List ℕ → Bool
 sameBytes [] [] = true

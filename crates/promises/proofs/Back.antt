@@ -52,7 +52,7 @@ change-kept (Create s x) k = inr refl
 change-kept (Kill u s) k = inl refl
 change-kept (TakeBack u) k = absurd (k .no-take-back (is-take-back u))
 
-read-passes : {q : Request} → IsRead q → grantOf q ≡ Pass
+pub read-passes : {q : Request} → IsRead q → grantOf q ≡ Pass
 read-passes (is-read x s v) = refl
 
 back-undoes : {q : Request} → IsTakeBack q → grantOf q ≡ Ruling.TakeBack

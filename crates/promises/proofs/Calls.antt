@@ -19,6 +19,11 @@ use Rattle.batch.specs.Batch.{State, roomFor, taken}
 use Rattle.batch.proofs.Served.{desk-runs}
 use Rattle.rules.specs.Rules.{rules}
 use Rattle.rules.proofs.Empty.{empty-meets}
+use Rattle.reader.specs.Reading.{Saved}
+use Rattle.opening.specs.Opening.{keeps, openedBy}
+use Rattle.opening.specs.Desks.{deskBy}
+use Rattle.opening.specs.declared.Opening.{Opening}
+use Rattle.opening.proofs.Theorems.{fine}
 use Rattle.promises.specs.Fits.{fits}
 use Rattle.promises.specs.Calls.{Call, Calls, none, then, roomOf, takenIn, Promised}
 use Rattle.promises.proofs.Fitting.{taken-fit}
@@ -85,3 +90,16 @@ from-empty last l = of-calls emptyHouse last (empty-meets last l)
 pub input-from-empty : (last : ℕ) → last ≤ top → (input : List ℕ) → Bytes input
     → Promised emptyHouse last (seriesOf input .requests) (run deskRules (opened emptyHouse last) (seriesOf input .requests))
 input-from-empty last l = of-input emptyHouse last (empty-meets last l)
+
+-- ---- from any image: what opens meets the rules, and a refused image opens the empty desk with last number 0
+opened-meets : (b : List ℕ) (a : Opening) → openedBy b .answer ≡ a → keeps (openedBy b .now) ≡ true
+opened-meets b Opening.Opened e = fine b .0 e .0
+opened-meets b (Opening.Refused n) e = subst (λ (s : Saved). keeps s ≡ true) (sym (fine b .1 n e)) (empty-meets 0 (omega arith))
+
+pub from-image : (b : List ℕ) {cs : List Call} {d : State} → Calls (deskBy b .desk) cs d
+    → Promised (openedBy b .now .house) (openedBy b .now .last) (takenIn (deskBy b .desk) cs) d
+from-image b = of-calls (openedBy b .now .house) (openedBy b .now .last) (opened-meets b (openedBy b .answer) refl)
+
+pub input-from-image : (b input : List ℕ) → Bytes input
+    → Promised (openedBy b .now .house) (openedBy b .now .last) (seriesOf input .requests) (run deskRules (deskBy b .desk) (seriesOf input .requests))
+input-from-image b = of-input (openedBy b .now .house) (openedBy b .now .last) (opened-meets b (openedBy b .answer) refl)

@@ -24,4 +24,5 @@ pub mod Listed
 pub mod Back
 pub mod Seen
 pub mod Calls
+pub mod Restart
 pub mod Determined

@@ -17,7 +17,7 @@ use Rattle.promises.specs.Book.{Book, Entry, entry, blank, recordsOf, en
 use Rattle.promises.proofs.Agrees.{Agrees, opened-agrees, step-same}
 
 -- ---- numbers: what follows the last number is larger
-next-larger : (last n : ℕ) → nextAfter last ≡ Number n → last < n
+pub next-larger : (last n : ℕ) → nextAfter last ≡ Number n → last < n
 next-larger last n e = by-top (eqb last top) e
   where
     by-top : (t : Bool) → cond t Spent (Number (last + 1)) ≡ Number n → last < n

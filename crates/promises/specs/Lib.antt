@@ -6,3 +6,4 @@ pub mod Grants
 pub mod Back
 pub mod Seen
 pub mod Calls
+pub mod Restart
