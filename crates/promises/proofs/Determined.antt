@@ -7,6 +7,11 @@ use lib.ListN.{length}
 use Rattle.request.specs.declared.Request.{Request}
 use Rattle.records.specs.House.{House, view, emptyHouse}
 use Rattle.effects.specs.declared.Change.{Change}
+use Rattle.reader.specs.Reading.{Saved, blank, Taken, stopped, walked}
+use Rattle.reader.specs.declared.Walk.{Walk}
+use Rattle.opening.specs.Opening.{Opens, opens, openedBy}
+use Rattle.opening.specs.Desks.{OpensDesk, opensDesk, deskBy}
+use Rattle.opening.specs.declared.Opening.{Opening}
 use Rattle.counter.specs.Numbers.{nextAfter, lastAfter}
 use Rattle.counter.specs.declared.Counter.{Counter}
 use Rattle.counter.specs.declared.Issued.{Issued}
@@ -48,6 +53,19 @@ one-issue entry c d r s p q = (determined (p .0) (q .0), (λ i. record { last = 
 pub one-issued : (last : ℕ) (r s : Issued)
     → (r .next ≡ nextAfter last) × (r .last ≡ lastAfter last) → (s .next ≡ nextAfter last) × (s .last ≡ lastAfter last) → r ≡ s
 one-issued last r s p q = λ i. record { next = determined (p .0) (q .0) i; last = determined (p .1) (q .1) i }
+
+-- s₁ and s₂ are what the records show, with the last number
+-- two results of reader::take_all: one-walk
+pub one-walk : (image : List ℕ) (s₁ s₂ : Saved) (r s : Walk) → stopped r s₁ ≡ walked 0 blank image → stopped s s₂ ≡ walked 0 blank image → (r ≡ s) × (s₁ ≡ s₂)
+one-walk image s₁ s₂ r s p q = (ap (λ (t : Taken). t .stop) (determined p q), ap (λ (t : Taken). t .got) (determined p q))
+
+-- two results of opening::open: one-opening
+pub one-opening : (image : List ℕ) (s₁ s₂ : Saved) (r s : Opening) → opens r s₁ ≡ openedBy image → opens s s₂ ≡ openedBy image → (r ≡ s) × (s₁ ≡ s₂)
+one-opening image s₁ s₂ r s p q = (ap (λ (o : Opens). o .answer) (determined p q), ap (λ (o : Opens). o .now) (determined p q))
+
+-- two results of opening::open_desk: one-desk
+pub one-desk : (image : List ℕ) (d₁ d₂ : State) (r s : Opening) → opensDesk r d₁ ≡ deskBy image → opensDesk s d₂ ≡ deskBy image → (r ≡ s) × (d₁ ≡ d₂)
+one-desk image d₁ d₂ r s p q = (ap (λ (o : OpensDesk). o .answer) (determined p q), ap (λ (o : OpensDesk). o .desk) (determined p q))
 
 -- two results of history::open: one-opened
 pub one-opened : (last : ℕ) (r s : Desk) → shownOf r ≡ opened emptyHouse last → shownOf s ≡ opened emptyHouse last → shownOf r ≡ shownOf s
