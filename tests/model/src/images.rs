@@ -34,7 +34,7 @@ impl Counts {
 
     fn words(&self) -> String {
         let Counts { accepted, cut, no_image } = self;
-        format!("{accepted} accepted and saved as the same bytes, {cut} refused with 14, {no_image} with 15")
+        format!("{accepted} accepted, {cut} refused with 14, {no_image} with 15")
     }
 }
 
@@ -88,7 +88,7 @@ pub fn stored(program: &Program, files: &[String]) -> Result<(), String> {
     if let Some(fault) = missing.first() {
         return Err(format!("no stored image is refused for: {fault}"));
     }
-    println!("{} stored images: {}, {requests} requests after opening", counts.all(), counts.words());
+    println!("{} stored ({}; {requests} requests after opening)", counts.all(), counts.words());
     Ok(())
 }
 
@@ -139,7 +139,7 @@ pub fn changed(program: &Program, file: &str) -> Result<(), String> {
     if length < 300 || kinds.len() != 6 || counts.accepted == 0 || counts.cut < length - 50 || counts.no_image < length {
         return Err(format!("{file}: too little is tried: {length} bytes, {}", counts.words()));
     }
-    println!("an image of {length} bytes changed in {} ways: {}", counts.all(), counts.words());
+    println!("{length} bytes changed in {} ways ({})", counts.all(), counts.words());
     Ok(())
 }
 

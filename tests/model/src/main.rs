@@ -38,16 +38,17 @@ model batches SEED COUNT > cases
 model coverage COUNT SEED..
 model stored FILE..              (whether these runs, in commented hex, meet every condition)
 model make-images FOLDER         (writes the stored images)
+model judged IMAGE < requests    (how many of them lead to the image)
 and these, which drive a program, given as the words of a command, with files in FOLDER:
 model stored-images FOLDER FILE.. -- PROGRAM..
 model changed-images FOLDER FILE -- PROGRAM..
 model image-runs FOLDER SEED COUNT -- PROGRAM..
 model restarts FOLDER SEED COUNT -- PROGRAM..
-model killed FOLDER -- PROGRAM..
+model killed FOLDER [--by-chance] -- PROGRAM..
 model unread -- COMMAND..        (with a standard output that nobody reads)";
 const WORDS: [&str; 8] = ["run", "generate", "requests", "pieces", "batch", "batches", "coverage", "stored"];
-const DRIVING: [&str; 7] =
-    ["make-images", "stored-images", "changed-images", "image-runs", "restarts", "killed", "unread"];
+const DRIVING: [&str; 8] =
+    ["make-images", "judged", "stored-images", "changed-images", "image-runs", "restarts", "killed", "unread"];
 
 fn main() -> ExitCode {
     let given: Vec<OsString> = std::env::args_os().skip(1).collect();
@@ -80,7 +81,7 @@ fn as_program(words: &[OsString]) -> io::Result<bool> {
     Ok(said.is_empty())
 }
 
-/// One of the words that drive a program; false where it ended badly and said so itself.
+/// One of the words about images, most of which drive a program; false where it ended badly and said so itself.
 fn drive(word: &str, rest: &[String]) -> Result<bool, String> {
     let at = rest.iter().position(|w| w == "--").unwrap_or(rest.len());
     let (rest, command) = (&rest[..at], rest.get(at + 1..).unwrap_or(&[]));
@@ -91,6 +92,11 @@ fn drive(word: &str, rest: &[String]) -> Result<bool, String> {
     };
     match (word, rest) {
         ("make-images", [folder]) => image_cases::write(folder)?,
+        ("judged", [file]) => {
+            let image = std::fs::read(file).map_err(|error| format!("{file}: {error}"))?;
+            let run = input().map_err(|error| error.to_string())?;
+            println!("{}", restarts::judged(&run, &image).ok_or(format!("{file}: no requests lead there"))?);
+        }
         ("stored-images", [folder, files @ ..]) => images::stored(&program(folder)?, files)?,
         ("changed-images", [folder, file]) => images::changed(&program(folder)?, file)?,
         ("image-runs", [folder, seed, count]) => {
@@ -99,7 +105,8 @@ fn drive(word: &str, rest: &[String]) -> Result<bool, String> {
         ("restarts", [folder, seed, count]) => {
             restarts::restarts(&program(folder)?, number(seed)?, number(count)? as usize)?
         }
-        ("killed", [folder]) => killed::each_moment(&program(folder)?)?,
+        ("killed", [folder]) => killed::each_moment(&program(folder)?, false)?,
+        ("killed", [folder, word]) if word == "--by-chance" => killed::each_moment(&program(folder)?, true)?,
         ("unread", []) => return killed::unread(command),
         _ => return Err(USAGE.into()),
     }

@@ -69,7 +69,7 @@ pub fn pairs(program: &Program, seed: u64, count: usize) -> Result<(), String> {
     if count < 60 || largest < 2500 || reasons < count / 3 {
         return Err(format!("too little is tried: {count} pairs, {reasons} with reasons, images up to {largest} bytes"));
     }
-    println!("{count} pairs of runs, {reasons} with reasons: {answered} lines, images of up to {largest} bytes, no difference");
+    println!("{count} pairs of runs ({reasons} with reasons, {answered} lines, images of up to {largest} bytes)");
     Ok(())
 }
 
@@ -137,10 +137,10 @@ pub fn restarts(program: &Program, seed: u64, count: usize) -> Result<(), String
         *(if restarted.across.is_empty() { &mut without } else { &mut with }) += 1;
         across += restarted.across.len();
     }
-    if with < 5 || without < 5 {
+    if with < 2 || without < 2 {
         return Err(format!("too little is tried: {with} runs with take-backs across the restart, {without} without"));
     }
-    println!("{count} runs with a restart, {answered} lines: {without} as in one piece, {with} but for {across} take-backs across the restart, refused with 12");
+    println!("{count} restarts ({answered} lines; {without} runs as in one piece, {with} but for {across} take-backs across, refused with 12)");
     Ok(())
 }
 
@@ -167,4 +167,19 @@ fn one_restart(program: &Program, restarted: &Restarted, why: bool) -> Result<us
         return Err("the images after the restart and in one piece differ".into());
     }
     Ok(both.len() + across.len())
+}
+
+/// How many requests of the run, from the opening with 0 on, lead to the image; the fewest, and at least one.
+pub fn judged(run: &[u8], bytes: &[u8]) -> Option<usize> {
+    let mut desk = Desk::open(0);
+    let mut at = 0;
+    for requests in 1.. {
+        let Frame::Whole(request, length) = frame(&run[at..]) else { break };
+        desk.answer(&request);
+        at += length;
+        if image::write(&desk.house, desk.last) == bytes {
+            return Some(requests);
+        }
+    }
+    None
 }
