@@ -147,12 +147,14 @@ fi
 rm -r folder plain
 
 # A disk that takes no more: files may have at most one block, and what goes over it fails.
+limited() { (trap '' XFSZ; ulimit -f 1; exec "$desk" --save image < other > /dev/null); }
 for there in old none; do
+    echo 0 > ../status
     cases=$((cases + 1))
     named="desk --save image under a limit, $there before"
     [ "$there" = none ] || cp ../old image
     ls -A > ../before
-    { (trap '' XFSZ; ulimit -f 1; "$desk" --save image < other > /dev/null 2>&3) 3>&1 && status=0 || status=$?; echo "$status" > ../status; } | cat > ../errors
+    { limited 2>&1 || echo "$?" > ../status; } | cat > ../errors
     status=$(cat ../status)
     ls -A > ../after
     said 'desk: image: ?*'
@@ -214,7 +216,8 @@ for name in missing folder missing/image other/image ''; do
 done
 rmdir folder
 
-# Files that are no image, with the refusal that they get. 13,107 counters and one byte are 65,536 bytes and end inside a body; one more byte is too long.
+# Files that are no image, with the refusal that they get. 13,107 counters and one byte are 65,536 bytes, which end inside a body;
+# with one byte more the file is too long.
 counters() { awk 'BEGIN { for (i = 0; i < 13107; i++) printf "@...." }'; }
 printf '' > empty
 printf 'hello\n' > text

@@ -1,14 +1,12 @@
 // The stored images of tests/images: a small house in the image's form, and each case what is changed in it. The answers are said here, by hand.
 
+use crate::whole_images::{self, Line, ACCEPTED, CUT, LEAD, UNKNOWN};
 use Edit::*;
-
-/// A record in hex, and what it is.
-type Line = (String, String);
 
 enum Edit {
     /// In place of the record with that name.
     Set(&'static str, &'static str, &'static str),
-    Drop(&'static str),
+    Without(&'static str),
     /// Behind the record with that name.
     After(&'static str, &'static str, &'static str),
     /// The record and all behind it go; the bytes given end the image.
@@ -39,9 +37,6 @@ const HOUSE: [(&str, &str, &str); 17] = [
 /// A file's name, what must come of it, and the changes.
 type Case = (&'static str, &'static str, Vec<Edit>);
 
-const ACCEPTED: &str = "accepted";
-const CUT: &str = "14: an end inside a body";
-const UNKNOWN: &str = "15: an unknown kind";
 const FIRST: &str = "15: the first record is not the counter";
 const SECOND: &str = "15: a second counter";
 const KINDS: &str = "15: kinds out of order";
@@ -50,7 +45,6 @@ const OUTSIDERS: &str = "15: outsiders with zero labels, in no room";
 const STAFF: &str = "15: only staff are administrators or leads";
 const MEMBERS: &str = "15: RW sessions owned by staff (house) or members of their room";
 const COVERED: &str = "15: RW sessions within the owner's label";
-const LEAD: &str = "15: one lead for each room";
 const ROOM_ONLY: &str = "15: a room script's drafts in that room only";
 const HOUSE_OR_ONE: &str = "15: a house script's drafts with the house, or with exactly one room";
 
@@ -71,7 +65,7 @@ fn form() -> Vec<Case> {
             After("counter", "40 00000005", "a second counter would be 15"),
             End("draft 5", "45 00", "but the walk comes first, and ends inside a body"),
         ]),
-        ("cut-without-counter", CUT, vec![Drop("counter"), End("draft 5", "45 00", "the walk comes first, and ends inside a body")]),
+        ("cut-without-counter", CUT, vec![Without("counter"), End("draft 5", "45 00", "the walk comes first, and ends inside a body")]),
         ("cut-before-unknown-kind", CUT, vec![End("draft 5", "45 000000 46 FF", "FF would be no kind, but stands inside the body that is cut")]),
         ("unknown-kind-before-cut", UNKNOWN, vec![
             After("draft 4", "46", "no kind today"),
@@ -83,46 +77,46 @@ fn form() -> Vec<Case> {
         ("unknown-kind-last", UNKNOWN, vec![After("draft 5", "00", "no kind")]),
         ("unknown-kind-47", UNKNOWN, vec![Set("draft 5", "47 00000005 01 00000002 01 00000004", "no kind today")]),
         ("line-end-behind", UNKNOWN, vec![After("draft 5", "0A", "a line end is no kind")]),
-        ("no-counter", FIRST, vec![Drop("counter")]),
-        ("counter-behind-a-user", FIRST, vec![Drop("counter"), After("user 0", "40 00000005", "not at the front")]),
-        ("counter-at-the-end", FIRST, vec![Drop("counter"), After("draft 5", "40 00000005", "not at the front")]),
+        ("no-counter", FIRST, vec![Without("counter")]),
+        ("counter-behind-a-user", FIRST, vec![Without("counter"), After("user 0", "40 00000005", "not at the front")]),
+        ("counter-at-the-end", FIRST, vec![Without("counter"), After("draft 5", "40 00000005", "not at the front")]),
         ("two-counters", SECOND, vec![After("counter", "40 00000005", "once more")]),
         ("two-counters-falling", SECOND, vec![After("counter", "40 00000004", "another")]),
         ("two-counters-rising", SECOND, vec![After("counter", "40 00000006", "another")]),
         ("second-counter-at-the-end", SECOND, vec![After("draft 5", "40 00000005", "once more")]),
         ("user-behind-a-room", KINDS, vec![
-            Drop("user 3"),
+            Without("user 3"),
             After("room 1", "41 03 02 00 0000 00000000 00000000 00", "user 3, behind a room"),
         ]),
-        ("room-behind-a-script", KINDS, vec![Drop("room 2"), After("script 0", "42 02", "room 2, behind a script")]),
-        ("script-behind-a-session", KINDS, vec![Drop("script 1"), After("session 0", "43 01 02 0001 01", "script 1, behind a session")]),
-        ("session-behind-a-draft", KINDS, vec![Drop("session 2"), After("draft 1", "44 02 03 00 0000 00 FF", "session 2, behind a draft")]),
+        ("room-behind-a-script", KINDS, vec![Without("room 2"), After("script 0", "42 02", "room 2, behind a script")]),
+        ("script-behind-a-session", KINDS, vec![Without("script 1"), After("session 0", "43 01 02 0001 01", "script 1, behind a session")]),
+        ("session-behind-a-draft", KINDS, vec![Without("session 2"), After("draft 1", "44 02 03 00 0000 00 FF", "session 2, behind a draft")]),
         ("user-at-the-end", KINDS, vec![
-            Drop("user 3"),
+            Without("user 3"),
             After("draft 5", "41 03 02 00 0000 00000000 00000000 00", "user 3, at the end"),
         ]),
         ("users-falling", "15: users not ascending", vec![
-            Drop("user 3"),
+            Without("user 3"),
             After("user 1", "41 03 02 00 0000 00000000 00000000 00", "user 3 before user 2"),
         ]),
-        ("rooms-falling", "15: rooms not ascending", vec![Drop("room 1"), After("room 2", "42 01", "room 1 behind room 2")]),
+        ("rooms-falling", "15: rooms not ascending", vec![Without("room 1"), After("room 2", "42 01", "room 1 behind room 2")]),
         ("scripts-falling", "15: scripts not ascending", vec![
-            Drop("script 0"),
+            Without("script 0"),
             After("script 1", "43 00 02 0001 00", "script 0 behind script 1"),
         ]),
         ("sessions-falling", "15: sessions not ascending", vec![
-            Drop("session 1"),
+            Without("session 1"),
             After("session 2", "44 01 02 01 0001 01 01", "session 1 behind session 2"),
         ]),
         ("drafts-falling", "15: drafts not ascending", vec![
-            Drop("draft 1"),
+            Without("draft 1"),
             After("draft 2", "45 00000001 00 00000001", "draft 1 behind draft 2"),
         ]),
         ("drafts-by-script", "15: drafts not ascending", vec![
             Set("script 0", "43 00 02 0001 01", "script 0 of room 1"),
             Set("draft 1", "45 00000004 00 00000002", "the drafts of script 0 first"),
             Set("draft 2", "45 00000005 00 00000002", ""),
-            Drop("draft 3"),
+            Without("draft 3"),
             Set("draft 4", "45 00000001 01 00000002", "then those of script 1: not ascending by number"),
             Set("draft 5", "45 00000002 01 00000002", ""),
         ]),
@@ -264,7 +258,7 @@ fn records_named() -> Vec<Case> {
         ]),
         ("ro-owner-is-not-there", "15: owners are there", vec![Set("session 2", "44 02 04 00 0000 00 FF", "of user 4")]),
         ("rw-owner-is-not-there", "15: owners are there", vec![Set("session 0", "44 00 04 02 0001 01 00", "of user 4")]),
-        ("owner-taken-out", "15: owners are there", vec![Drop("user 3")]),
+        ("owner-taken-out", "15: owners are there", vec![Without("user 3")]),
         ("room-of-a-session-is-not-there", "15: places of sessions are there; RW sessions owned by staff (house) or members of their room", vec![
             Set("session 1", "44 01 02 01 0001 01 03", "RW in room 3"),
         ]),
@@ -273,12 +267,14 @@ fn records_named() -> Vec<Case> {
             Set("session 1", "44 01 02 01 0001 01 03", "RW in room 3"),
         ]),
         ("script-of-a-draft-is-not-there", "15: scripts of drafts are there", vec![Set("draft 3", "45 00000003 02 00000004", "of script 2")]),
-        ("script-taken-out", "15: scripts of drafts are there", vec![Drop("script 1")]),
-        ("room-of-a-draft-is-not-there", "15: places of drafts are there", vec![Set("draft 2", "45 00000002 00 00000009", "in the house and room 3")]),
+        ("script-taken-out", "15: scripts of drafts are there", vec![Without("script 1")]),
+        ("room-of-a-draft-is-not-there", "15: places of drafts are there", vec![
+            Set("draft 2", "45 00000002 00 00000009", "in the house and room 3"),
+        ]),
         ("only-room-of-a-draft-is-not-there", "15: places of drafts are there", vec![Set("draft 3", "45 00000003 00 00000008", "in room 3 alone")]),
         ("script-without-draft", "15: a draft for each script", vec![After("script 1", "43 02 02 0001 00", "script 2, of which there is no draft")]),
-        ("room-script-without-draft", "15: a draft for each script", vec![Drop("draft 4"), Drop("draft 5")]),
-        ("script-with-one-draft", ACCEPTED, vec![Drop("draft 4")]),
+        ("room-script-without-draft", "15: a draft for each script", vec![Without("draft 4"), Without("draft 5")]),
+        ("script-with-one-draft", ACCEPTED, vec![Without("draft 4")]),
         ("house-draft-without-place", "15: a house script's drafts with the house, or with exactly one room; a place for each draft", vec![
             Set("draft 1", "45 00000001 00 00000000", "nowhere"),
         ]),
@@ -318,7 +314,9 @@ fn rules_of_people() -> Vec<Case> {
         ("outsider-with-a-level", OUTSIDERS, vec![Set("user 3", "41 03 02 01 0000 00000000 00000000 00", "level 1")]),
         ("outsider-with-a-category", OUTSIDERS, vec![Set("user 3", "41 03 02 00 8000 00000000 00000000 00", "one category")]),
         ("outsider-in-a-room", OUTSIDERS, vec![Set("user 3", "41 03 02 00 0000 00000002 00000000 00", "in room 1")]),
-        ("freelancer-in-no-room", ACCEPTED, vec![Set("user 3", "41 03 01 05 8000 00000000 00000000 00", "freelancer, in no room any more, with the label kept")]),
+        ("freelancer-in-no-room", ACCEPTED, vec![
+            Set("user 3", "41 03 01 05 8000 00000000 00000000 00", "freelancer, in no room any more, with the label kept"),
+        ]),
         ("staff-in-two-rooms", ACCEPTED, vec![Set("user 1", "41 01 00 03 0001 00000006 00000000 00", "in rooms 1 and 2")]),
     ]
 }
@@ -351,12 +349,12 @@ fn rules_of_sessions_and_drafts() -> Vec<Case> {
 fn edited(edits: &[Edit]) -> Vec<Line> {
     let mut records: Vec<(&str, Line)> = HOUSE.iter().map(|(name, hex, says)| (*name, (hex.to_string(), says.to_string()))).collect();
     for edit in edits {
-        let (Set(name, ..) | Drop(name) | After(name, ..) | End(name, ..)) = edit;
+        let (Set(name, ..) | Without(name) | After(name, ..) | End(name, ..)) = edit;
         let at = records.iter().position(|(n, _)| n == name).expect("the record is there");
         let line = |hex: &str, says: &str| (hex.to_string(), says.to_string());
         match edit {
             Set(_, hex, says) => records[at].1 = line(hex, says),
-            Drop(_) => drop(records.remove(at)),
+            Without(_) => drop(records.remove(at)),
             After(_, hex, says) => records.insert(at + 1, ("", line(hex, says))),
             End(_, hex, says) => {
                 records.truncate(at);
@@ -367,134 +365,11 @@ fn edited(edits: &[Edit]) -> Vec<Line> {
     records.into_iter().map(|(_, line)| line).collect()
 }
 
-/// Images that are no change of the house.
-fn others() -> Vec<(String, &'static str, Vec<Line>)> {
-    let lines = |records: &[(&str, &str)]| records.iter().map(|(hex, says)| (hex.to_string(), says.to_string())).collect();
-    let mut all = vec![
-        ("empty".into(), "14: no bytes", lines(&[])),
-        ("nobody".into(), ACCEPTED, lines(&[("40 00000000", "the empty desk: last number 0, no record")])),
-        ("nobody-at-the-top".into(), ACCEPTED, lines(&[("40 FFFFFFFF", "no record, and no number left")])),
-        ("nobody-and-a-script".into(), ACCEPTED, lines(&[
-            ("40 00000001", "no run leads to this desk, but it keeps the rules"),
-            ("43 00 02 0001 00", "script 0 of the house"),
-            ("45 00000001 00 00000001", "its draft, in the house"),
-        ])),
-        ("nobody-and-a-room".into(), LEAD, lines(&[("40 00000000", "no user"), ("42 01", "room 1, which nobody leads")])),
-        ("nobody-and-a-session".into(), "15: owners are there", lines(&[("40 00000000", "no user"), ("44 00 00 00 0000 00 FF", "session 0 of user 0")])),
-        ("one-administrator".into(), ACCEPTED, lines(&[
-            ("40 00000000", "last number 0"),
-            ("41 00 00 05 0003 00000000 00000000 01", "user 0, as enrolled"),
-        ])),
-        ("one-without-administrator".into(), "15: a house administrator if there is any user", lines(&[
-            ("40 00000000", "last number 0"),
-            ("41 00 00 05 0003 00000000 00000000 00", "user 0, no administrator"),
-        ])),
-    ];
-    for kind in 0x40..=0x45 {
-        all.push((format!("kind-{kind}-alone", kind = format!("{kind:02X}")), CUT, vec![(format!("{kind:02X}"), "a kind without its body".into())]));
-    }
-    for kind in ["00", "01", "3F", "46", "80", "FF"] {
-        all.push((format!("kind-{kind}-alone"), UNKNOWN, lines(&[(kind, "no kind")])));
-    }
-    all.push(("middling".into(), ACCEPTED, lines(&MIDDLING)));
-    all.push(("full".into(), ACCEPTED, full(256)));
-    all.push(("drafts-257".into(), "15: more than 256 drafts", full(257)));
-    all
-}
-
-/// A desk in use, of which every byte is changed by the test.
-const MIDDLING: [(&str, &str); 46] = [
-    ("40 0000002A", "last number 42"),
-    ("41 00 00 07 FFFF 00000000 00000002 01", "user 0: staff, leads room 1, administrator"),
-    ("41 01 00 05 0007 00010006 00000004 01", "user 1: staff in rooms 1, 2 and 16, leads room 2, administrator"),
-    ("41 02 00 03 0003 00000000 00010008 00", "user 2: staff, leads rooms 3 and 16"),
-    ("41 05 00 03 0003 00000008 00000000 00", "user 5: staff in room 3"),
-    ("41 09 01 02 0001 00000002 00000000 00", "user 9: freelancer in room 1"),
-    ("41 0A 01 02 0003 0000000C 00000000 00", "user 10: freelancer in rooms 2 and 3"),
-    ("41 14 01 04 0002 00000000 00000000 00", "user 20: freelancer in no room any more"),
-    ("41 3F 02 00 0000 00000000 00000000 00", "user 63: outsider"),
-    ("42 01", "room 1"),
-    ("42 02", "room 2"),
-    ("42 03", "room 3"),
-    ("42 10", "room 16"),
-    ("43 00 02 0001 00", "script 0 of the house"),
-    ("43 01 02 0001 01", "script 1 of room 1"),
-    ("43 02 02 0003 02", "script 2 of room 2"),
-    ("43 07 00 0000 00", "script 7 of the house"),
-    ("43 1E 07 FFFF 00", "script 30 of the house"),
-    ("43 3F 03 0001 10", "script 63 of room 16"),
-    ("44 00 00 07 FFFF 01 00", "session 0: user 0, RW in the house"),
-    ("44 01 01 02 0001 01 00", "session 1: user 1, RW in the house"),
-    ("44 02 01 02 0003 01 02", "session 2: user 1, RW in room 2"),
-    ("44 03 09 02 0001 01 01", "session 3: user 9, RW in room 1"),
-    ("44 04 0A 02 0003 01 02", "session 4: user 10, RW in room 2"),
-    ("44 08 0A 01 0000 01 03", "session 8: user 10, RW in room 3"),
-    ("44 0B 01 03 0001 01 10", "session 11: user 1, RW in room 16"),
-    ("44 14 14 05 0001 00 FF", "session 20: user 20, RO, of an earlier label"),
-    ("44 3F 3F 00 0000 00 FF", "session 63: user 63, RO"),
-    ("45 00000001 00 00000001", "draft 1 of script 0: in the house"),
-    ("45 00000002 00 00000003", "draft 2 of script 0: in the house and room 1"),
-    ("45 00000003 01 00000002", "draft 3 of script 1: in room 1"),
-    ("45 00000005 00 00000002", "draft 5 of script 0: in room 1 alone"),
-    ("45 00000008 02 00000004", "draft 8 of script 2: in room 2"),
-    ("45 00000009 02 00000004", "draft 9 of script 2: in room 2"),
-    ("45 0000000D 07 00000001", "draft 13 of script 7: in the house"),
-    ("45 0000000E 07 0001000F", "draft 14 of script 7: everywhere"),
-    ("45 00000010 1E 00000001", "draft 16 of script 30: in the house"),
-    ("45 00000014 00 00000001", "draft 20 of script 0: in the house"),
-    ("45 00000015 3F 00010000", "draft 21 of script 63: in room 16"),
-    ("45 0000001F 3F 00010000", "draft 31 of script 63: in room 16"),
-    ("45 00000020 1E 00010000", "draft 32 of script 30: in room 16 alone"),
-    ("45 00000021 00 0000000D", "draft 33 of script 0: in the house and rooms 2 and 3"),
-    ("45 00000025 01 00000002", "draft 37 of script 1: in room 1"),
-    ("45 00000028 02 00000004", "draft 40 of script 2: in room 2"),
-    ("45 00000029 07 00000008", "draft 41 of script 7: in room 3 alone"),
-    ("45 0000002A 00 00000001", "draft 42 of script 0: in the house"),
-];
-
-/// Every user, room, script and session there can be, and so many drafts.
-fn full(drafts: u32) -> Vec<Line> {
-    let mut out: Vec<Line> = vec![("40 FFFFFFFF".into(), "the last number there is".into())];
-    let room = |id: u32| 1 + id % 16;
-    out.push(("41 00 00 07 FFFF 00000000 0001FFFE 01".into(), "user 0: staff, leads every room, administrator".into()));
-    for id in 1..64 {
-        let (label, joined, sort) = match id % 3 {
-            0 => ("07 FFFF", 0x0001_FFFE, "staff in every room"),
-            1 => ("05 00FF", 1 << room(id), "freelancer in one room"),
-            _ => ("00 0000", 0, "outsider"),
-        };
-        out.push((format!("41 {id:02X} {:02X} {label} {joined:08X} 00000000 00", id % 3), format!("user {id}: {sort}")));
-    }
-    for id in 1..=16 {
-        out.push((format!("42 {id:02X}"), format!("room {id}")));
-    }
-    let origin = |id: u32| id % 17;
-    for id in 0..64 {
-        out.push((format!("43 {id:02X} {:02X} {:04X} {:02X}", id % 8, id * 257, origin(id)), format!("script {id}, origin {}", origin(id))));
-    }
-    for id in 0..64 {
-        let (kind, place) = match id % 3 {
-            0 if id % 2 == 0 => ("RW in the house", "01 00".into()),
-            0 if id != 0 => ("RW in a room", format!("01 {:02X}", room(id))),
-            1 => ("RW in a room", format!("01 {:02X}", room(id))),
-            _ => ("RO", "00 FF".into()),
-        };
-        let label = if id % 3 == 2 { "00 0000" } else { "05 00FF" };
-        out.push((format!("44 {id:02X} {id:02X} {label} {place}"), format!("session {id}: user {id}, {kind}")));
-    }
-    for at in 0..drafts {
-        let (number, script) = (u32::MAX - 0x00FE_DCBA * (drafts - 1 - at), at % 64);
-        let places = if origin(script) == 0 { 0x0001_FFFF } else { 1 << origin(script) };
-        out.push((format!("45 {number:08X} {script:02X} {places:08X}"), format!("a draft of script {script}")));
-    }
-    out
-}
-
 /// Writes a file for each case; its first line is the answer.
 pub fn write(folder: &str) -> Result<(), String> {
     let changed = [form(), bounds_of_users(), bounds(), records_named(), rules_of_people(), rules_of_sessions_and_drafts()];
     let changed = changed.into_iter().flatten().map(|(name, answer, edits)| (name.to_string(), answer, edited(&edits)));
-    for (name, answer, records) in changed.chain(others()) {
+    for (name, answer, records) in changed.chain(whole_images::all()) {
         let width = records.iter().map(|(hex, _)| hex.len()).max().unwrap_or(0);
         let mut text = format!("# {answer}\n");
         for (hex, says) in records {

@@ -6,6 +6,7 @@ use crate::generate::{generate, going_on, Chance};
 use crate::image;
 use crate::program::lines;
 use crate::rules::Checked;
+use crate::trace;
 use std::ffi::OsStr;
 use std::fs::{self, File};
 use std::io::{self, Read};
@@ -16,13 +17,13 @@ use std::thread::sleep;
 use std::time::{Duration, Instant};
 
 extern "C" {
-    fn kill(process: i32, signal: i32) -> i32;
+    pub fn kill(process: i32, signal: i32) -> i32;
 }
 
-const SIGKILL: i32 = 9;
+pub const SIGKILL: i32 = 9;
 
 /// How a run that was to be killed came to its end.
-enum End {
+pub enum End {
     Killed,
     /// By itself, before the moment came.
     Itself,
@@ -43,7 +44,7 @@ struct Found {
     new: usize,
 }
 
-/// Kills the program at every system call from its first read of the input on, or where that can't be told after delays by chance.
+/// Kills the program at every system call from its first read of the input on; where these can't be followed, after delays by chance.
 pub fn each_moment(program: &Program, by_chance: bool) -> Result<(), String> {
     let mut said = Vec::new();
     for over in [true, false] {
@@ -129,8 +130,16 @@ impl Saving<'_> {
             if last {
                 return Ok(true);
             }
+            self.again().map_err(|what| format!("after a kill at system call {moment} from the input on: {what}"))?;
         }
         Err(format!("more than {MOST_CALLS} system calls"))
+    }
+
+    /// What a killed run left beside the image must not hinder the next.
+    fn again(&self) -> Result<(), String> {
+        let ended = self.start().and_then(|mut command| command.stdout(Stdio::null()).status());
+        ended.map_err(|error| error.to_string())?;
+        self.look(End::Itself, &mut Found::default())
     }
 
     /// Delays from none to a little more than a whole run takes.
@@ -145,6 +154,7 @@ impl Saving<'_> {
             let delay = if at == 0 { Duration::ZERO } else { whole.mul_f64(chance.below(1200) as f64 / 1000.0) };
             let end = kill_after(self.start().map_err(told)?, delay).map_err(told)?;
             self.look(end, found).map_err(|what| format!("killed after {delay:?}: {what}"))?;
+            self.again().map_err(|what| format!("after a kill, {delay:?} after the start: {what}"))?;
         }
         Ok(())
     }
@@ -152,7 +162,7 @@ impl Saving<'_> {
 
 /// No program needs as many to save.
 const MOST_CALLS: usize = 5000;
-const CHANCES: usize = 150;
+const CHANCES: usize = 100;
 
 /// Kills the command and all that it started, as one group, once the delay is over.
 fn kill_after(mut command: Command, delay: Duration) -> io::Result<End> {
@@ -184,140 +194,4 @@ pub fn unread(command: &[String]) -> Result<bool, String> {
     let out = Stdio::from(std::os::fd::OwnedFd::from(out));
     let status = Command::new(first).args(rest).stdout(out).status().map_err(|error| format!("{first}: {error}"))?;
     Ok(status.success())
-}
-
-/// Following system calls, as Linux does it on x86-64.
-#[cfg(all(target_os = "linux", target_arch = "x86_64"))]
-mod trace {
-    use super::{kill, End, SIGKILL};
-    use std::collections::BTreeSet;
-    use std::ffi::{c_long, c_void};
-    use std::io;
-    use std::os::unix::process::CommandExt;
-    use std::process::{Command, Stdio};
-
-    extern "C" {
-        fn ptrace(request: c_long, process: c_long, address: *mut c_void, data: *mut c_void) -> c_long;
-        fn waitpid(process: i32, status: *mut i32, options: i32) -> i32;
-    }
-
-    const TRACE_ME: c_long = 0;
-    const GET_REGISTERS: c_long = 12;
-    const TO_NEXT_CALL: c_long = 24;
-    const SET_OPTIONS: c_long = 0x4200;
-    /// Calls told from signals; children of every sort too; all are killed with us.
-    const OPTIONS: usize = 1 | 2 | 4 | 8 | 16 | 0x10_0000;
-    const ALL_CHILDREN: i32 = 0x4000_0000;
-    const SIGTRAP: i32 = 5;
-    const SIGSTOP: i32 = 19;
-    const AT_A_CALL: i32 = SIGTRAP | 0x80;
-    /// Where the registers have the call's number and its first argument.
-    const REGISTERS: usize = 27;
-    const CALL: usize = 15;
-    const FIRST: usize = 14;
-    const READ: u64 = 0;
-    const EPERM: i32 = 1;
-    const EACCES: i32 = 13;
-    const ENOSYS: i32 = 38;
-
-    pub fn not_permitted(error: &io::Error) -> bool {
-        matches!(error.raw_os_error(), Some(EPERM | EACCES | ENOSYS))
-    }
-
-    fn ask(request: c_long, process: i32, data: usize) -> io::Result<()> {
-        // Safe: `data` is a number, or for GET_REGISTERS the address of as many words as it writes.
-        match unsafe { ptrace(request, process.into(), std::ptr::null_mut(), data as *mut c_void) } {
-            -1 => Err(io::Error::last_os_error()),
-            _ => Ok(()),
-        }
-    }
-
-    fn wait(process: i32) -> io::Result<(i32, i32)> {
-        let mut status = 0;
-        // Safe: one int is written.
-        match unsafe { waitpid(process, &mut status, ALL_CHILDREN) } {
-            -1 => Err(io::Error::last_os_error()),
-            process => Ok((process, status)),
-        }
-    }
-
-    /// Runs the command and kills it and all its children at one stop before or after a system call, counted from the first read of standard input on.
-    pub fn kill_at(mut command: Command, moment: usize) -> io::Result<End> {
-        // Safe: nothing but a system call happens between fork and exec.
-        unsafe {
-            command.pre_exec(|| ask(TRACE_ME, 0, 0));
-        }
-        let child = command.stdout(Stdio::null()).spawn()?;
-        let first = child.id() as i32;
-        let (_, status) = wait(first)?;
-        if status & 0x7F != 0x7F {
-            return Err(io::Error::other("it ended before it began"));
-        }
-        ask(SET_OPTIONS, first, OPTIONS)?;
-        ask(TO_NEXT_CALL, first, 0)?;
-        let mut alive = BTreeSet::from([first]);
-        let mut left = None;
-        while !alive.is_empty() {
-            let (process, status) = wait(-1)?;
-            if status & 0x7F != 0x7F {
-                alive.remove(&process);
-                continue;
-            }
-            let (signal, event) = (status >> 8 & 0xFF, status >> 16);
-            let new = alive.insert(process);
-            if signal == AT_A_CALL {
-                if left.is_none() && reads_input(process)? {
-                    left = Some(moment);
-                }
-                match &mut left {
-                    Some(0) => return kill_all(alive),
-                    Some(left) => *left -= 1,
-                    None => {}
-                }
-            }
-            // Its own signals go on to it; the stops of following it do not.
-            let ours = signal == AT_A_CALL || signal == SIGTRAP || event != 0 || new && signal == SIGSTOP;
-            match ask(TO_NEXT_CALL, process, if ours { 0 } else { signal as usize }) {
-                // Killed meanwhile: its end is still to be waited for.
-                Err(error) if error.raw_os_error() == Some(3) => {}
-                done => done?,
-            }
-        }
-        Ok(End::Itself)
-    }
-
-    fn reads_input(process: i32) -> io::Result<bool> {
-        let mut registers = [0u64; REGISTERS];
-        ask(GET_REGISTERS, process, registers.as_mut_ptr() as usize)?;
-        Ok(registers[CALL] == READ && registers[FIRST] == 0)
-    }
-
-    fn kill_all(mut alive: BTreeSet<i32>) -> io::Result<End> {
-        for process in &alive {
-            // Safe: these are our own, and not waited for yet.
-            unsafe { kill(*process, SIGKILL) };
-        }
-        while !alive.is_empty() {
-            let (process, status) = wait(-1)?;
-            if status & 0x7F != 0x7F {
-                alive.remove(&process);
-            }
-        }
-        Ok(End::Killed)
-    }
-}
-
-#[cfg(not(all(target_os = "linux", target_arch = "x86_64")))]
-mod trace {
-    use super::End;
-    use std::io;
-    use std::process::Command;
-
-    pub fn not_permitted(_: &io::Error) -> bool {
-        true
-    }
-
-    pub fn kill_at(_: Command, _: usize) -> io::Result<End> {
-        Err(io::ErrorKind::Unsupported.into())
-    }
 }

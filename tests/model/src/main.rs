@@ -19,6 +19,9 @@ mod refusals;
 mod request;
 mod restarts;
 mod rules;
+#[cfg_attr(not(all(target_os = "linux", target_arch = "x86_64")), path = "no_trace.rs")]
+mod trace;
+mod whole_images;
 
 use drive::Program;
 use program::Arguments;

@@ -83,8 +83,8 @@ struct Restarted {
     across: Vec<usize>,
 }
 
-/// Plays the run with a restart after so many requests beside the run in one piece. A take-back reaches across the restart where the desk in one piece
-/// grants it and the one opened anew has no kept change; without these both give the same answers.
+/// Plays the run with a restart after so many requests beside the run in one piece. A take-back reaches across the restart where
+/// the desk in one piece has a kept change and the one opened anew has none; without these both give the same answers.
 fn restart(run: &[u8], requests: usize) -> Result<Restarted, String> {
     let mut whole = Checked::open(0);
     let mut at = 0;
