@@ -274,7 +274,12 @@ impl House {
 
 impl Desk {
     pub fn open(last: u32) -> Desk {
-        Desk { house: House::default(), last, changes: Vec::new(), kept: 0, base: House::default() }
+        Desk::of(House::default(), last)
+    }
+
+    /// A desk with these records and no kept change.
+    pub fn of(house: House, last: u32) -> Desk {
+        Desk { base: house.clone(), house, last, changes: Vec::new(), kept: 0 }
     }
 
     /// The changes that are kept no longer, and those that are.

@@ -52,8 +52,16 @@ struct Player {
     labels: Vec<Label>,
 }
 
+/// A desk without users is set up by this many requests first.
+const SETTING_UP: usize = 90;
+
 /// A run of `count` requests as bytes; some end in an unknown kind or a cut body, unless the run shall be whole.
 pub fn generate(seed: u64, count: usize, opened: u32, whole: bool) -> Vec<u8> {
+    going_on(seed, count, Desk::open(opened), whole)
+}
+
+/// Such a run for a desk that was opened otherwise.
+pub fn going_on(seed: u64, count: usize, desk: Desk, whole: bool) -> Vec<u8> {
     let mut chance = Chance::new(seed);
     let style = STYLES[chance.below(STYLES.len())];
     let labels = labels(&mut chance);
@@ -62,7 +70,8 @@ pub fn generate(seed: u64, count: usize, opened: u32, whole: bool) -> Vec<u8> {
     let stray = if chance.percent(40) { 1 + chance.below(6) } else { 0 };
     // Some runs take an early desk back to the empty one.
     let emptied = if chance.percent(25) { Some(stray + 1 + chance.below(24)) } else { None };
-    let mut player = Player { chance, desk: Desk::open(opened), labels };
+    let setup = if desk.house.users.is_empty() { SETTING_UP } else { 0 };
+    let mut player = Player { chance, desk, labels };
     let mut out = Vec::new();
     let mut in_a_row = 0;
     for ordinal in 0..count {
@@ -70,7 +79,7 @@ pub fn generate(seed: u64, count: usize, opened: u32, whole: bool) -> Vec<u8> {
             player.end_badly(ending, &mut out);
             break;
         }
-        let weights = if ordinal < 90 { SETUP } else { style };
+        let weights = if ordinal < setup { SETUP } else { style };
         if in_a_row == 0 && ordinal > 60 && player.chance.below(600) < streaks * streaks {
             // Past 32 in a row, or down to an early desk.
             in_a_row = if player.chance.percent(60) { 33 + player.chance.below(4) } else { 1 + player.chance.below(12) };

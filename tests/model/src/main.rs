@@ -5,49 +5,115 @@ mod batches;
 mod conditions;
 mod coverage;
 mod desk;
+mod drive;
 mod generate;
+mod image;
+mod image_cases;
+mod images;
+mod killed;
 mod pieces;
 mod places;
+mod program;
 mod reasons;
 mod refusals;
 mod request;
+mod restarts;
 mod rules;
+#[cfg_attr(not(all(target_os = "linux", target_arch = "x86_64")), path = "no_trace.rs")]
+mod trace;
+mod whole_images;
 
-use reasons::Reason;
+use drive::Program;
+use program::Arguments;
 use request::{frame, Frame};
+use std::ffi::OsString;
 use std::io::{self, Read, Write};
 use std::process::ExitCode;
 
 const USAGE: &str = "usage:
-model [--why] < requests         (stands in for the program `desk`)
-model run [--opened N] [--why] < requests
+model [--last N | --from IMAGE] [--save IMAGE] [--why] < requests       (stands in for the program `desk`)
+model run [--last N | --from IMAGE] [--save IMAGE] [--why] < requests   (--opened is --last)
 model generate SEED COUNT [--opened N] [--whole] > requests
 model requests < requests        (ordinal and hex, a line each)
 model pieces < bytes > bytes     (the same bytes, written in odd pieces)
 model batch < cases              (NAME LAST ROOM PLACE REQUESTS, a line each)
 model batches SEED COUNT > cases
 model coverage COUNT SEED..
-model stored FILE..              (whether these runs, in commented hex, meet every condition)";
+model stored FILE..              (whether these runs, in commented hex, meet every condition)
+model make-images FOLDER         (writes the stored images)
+model judged IMAGE < requests    (how many of them lead to the image)
+and these, which drive a program, given as the words of a command, with files in FOLDER:
+model stored-images FOLDER FILE.. -- PROGRAM..
+model changed-images FOLDER FILE -- PROGRAM..
+model image-runs FOLDER SEED COUNT -- PROGRAM..
+model restarts FOLDER SEED COUNT -- PROGRAM..
+model killed FOLDER [--by-chance] -- PROGRAM..
+model unread -- COMMAND..        (with a standard output that nobody reads)";
 const WORDS: [&str; 8] = ["run", "generate", "requests", "pieces", "batch", "batches", "coverage", "stored"];
+const DRIVING: [&str; 8] =
+    ["make-images", "judged", "stored-images", "changed-images", "image-runs", "restarts", "killed", "unread"];
 
 fn main() -> ExitCode {
-    let words: Vec<String> = std::env::args_os().skip(1).map(|w| w.to_string_lossy().into()).collect();
+    let given: Vec<OsString> = std::env::args_os().skip(1).collect();
+    let words: Vec<String> = given.iter().map(|w| w.to_string_lossy().into()).collect();
     let done = match &words[..] {
-        [] => run(0, false),
-        [word] if word == "--why" => run(0, true),
-        [word, rest @ ..] if WORDS.contains(&word.as_str()) => own(word, rest.to_vec()),
-        _ => {
-            eprintln!("desk: usage: [--why] < requests > lines");
-            return ExitCode::FAILURE;
-        }
+        [word, ..] if word == "run" => as_program(&given[1..]),
+        [word, rest @ ..] if WORDS.contains(&word.as_str()) => own(word, rest.to_vec()).map(|()| true),
+        [word, rest @ ..] if DRIVING.contains(&word.as_str()) => drive(word, rest).map_err(io::Error::other),
+        _ => as_program(&given),
     };
     match done {
-        Ok(()) => ExitCode::SUCCESS,
+        Ok(true) => ExitCode::SUCCESS,
+        Ok(false) => ExitCode::FAILURE,
         Err(error) => {
             eprintln!("model: {error}");
             ExitCode::FAILURE
         }
     }
+}
+
+/// Runs as the program does; true where standard error has no line.
+fn as_program(words: &[OsString]) -> io::Result<bool> {
+    let said = match Arguments::of(words) {
+        Some(arguments) => program::run(&arguments).map_err(io::Error::other)?,
+        None => vec![program::USAGE.into()],
+    };
+    for line in &said {
+        eprintln!("desk: {line}");
+    }
+    Ok(said.is_empty())
+}
+
+/// One of the words about images, most of which drive a program; false where it ended badly and said so itself.
+fn drive(word: &str, rest: &[String]) -> Result<bool, String> {
+    let at = rest.iter().position(|w| w == "--").unwrap_or(rest.len());
+    let (rest, command) = (&rest[..at], rest.get(at + 1..).unwrap_or(&[]));
+    let number = |word: &String| word.parse::<u64>().map_err(|_| USAGE.to_string());
+    let program = |folder: &String| match command {
+        [] => Err(USAGE.to_string()),
+        _ => Ok(Program::new(folder, command)),
+    };
+    match (word, rest) {
+        ("make-images", [folder]) => image_cases::write(folder)?,
+        ("judged", [file]) => {
+            let image = std::fs::read(file).map_err(|error| format!("{file}: {error}"))?;
+            let run = input().map_err(|error| error.to_string())?;
+            println!("{}", restarts::judged(&run, &image).ok_or(format!("{file}: no requests lead there"))?);
+        }
+        ("stored-images", [folder, files @ ..]) => images::stored(&program(folder)?, files)?,
+        ("changed-images", [folder, file]) => images::changed(&program(folder)?, file)?,
+        ("image-runs", [folder, seed, count]) => {
+            restarts::pairs(&program(folder)?, number(seed)?, number(count)? as usize)?
+        }
+        ("restarts", [folder, seed, count]) => {
+            restarts::restarts(&program(folder)?, number(seed)?, number(count)? as usize)?
+        }
+        ("killed", [folder]) => killed::each_moment(&program(folder)?, false)?,
+        ("killed", [folder, word]) if word == "--by-chance" => killed::each_moment(&program(folder)?, true)?,
+        ("unread", []) => return killed::unread(command),
+        _ => return Err(USAGE.into()),
+    }
+    Ok(true)
 }
 
 /// One of the model's own words, with what follows it.
@@ -64,10 +130,9 @@ fn own(word: &str, mut rest: Vec<String>) -> io::Result<()> {
         rest.drain(at..at + 2);
     }
     let mut said = |flag: &str| rest.iter().position(|w| w == flag).map(|at| rest.remove(at)).is_some();
-    let (whole, why) = (said("--whole"), said("--why"));
+    let whole = said("--whole");
     let numbers: Vec<u64> = rest.iter().map(|w| w.parse().map_err(|_| usage())).collect::<Result<_, _>>()?;
     match (word, &numbers[..]) {
-        ("run", []) => run(opened, why),
         ("generate", [seed, count]) => {
             io::stdout().write_all(&generate::generate(*seed, *count as usize, opened, whole))
         }
@@ -87,36 +152,6 @@ fn input() -> io::Result<Vec<u8>> {
     let mut bytes = Vec::new();
     io::stdin().lock().read_to_end(&mut bytes)?;
     Ok(bytes)
-}
-
-/// Prints the lines of 01's run, with the reasons where they are asked for; a broken rule ends it with the request's ordinal.
-fn run(opened: u32, why: bool) -> io::Result<()> {
-    let bytes = input()?;
-    let mut out = io::BufWriter::new(io::stdout().lock());
-    let mut desk = rules::Checked::open(opened);
-    let mut at = 0;
-    for ordinal in 1.. {
-        let (kind, byte, number, reason, length) = match frame(&bytes[at..]) {
-            Frame::End => break,
-            Frame::Unknown(kind) => (kind, 0xC1, None, Reason::bare(1), None),
-            Frame::Cut(kind) => (kind, 0xC2, None, Reason::bare(2), None),
-            Frame::Whole(request, length) => {
-                let answer = desk.answer(&request)
-                    .map_err(|rule| io::Error::other(format!("request {ordinal}: {rule}")))?;
-                (request.kind(), answer.byte(), answer.number(), answer.reason(), Some(length))
-            }
-        };
-        let number = number.map_or("-".into(), |v| v.to_string());
-        write!(out, "{ordinal} {kind:02X} {byte:02X} {number}")?;
-        if why {
-            write!(out, " {reason}")?;
-        }
-        writeln!(out)?;
-        let Some(length) = length else { break };
-        at += length;
-    }
-    desk.replay_all().map_err(io::Error::other)?;
-    out.flush()
 }
 
 /// Prints what the batch leaves of each case.

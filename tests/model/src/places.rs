@@ -56,3 +56,9 @@ impl From<Places> for u32 {
         places.0
     }
 }
+
+impl From<u32> for Places {
+    fn from(bits: u32) -> Places {
+        Places(bits)
+    }
+}

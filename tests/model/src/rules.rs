@@ -4,16 +4,27 @@ use crate::desk::*;
 use crate::request::Request::{self, *};
 use std::collections::VecDeque;
 
-/// The first record rule that the records break.
-pub fn broken(h: &House, last: u32) -> Option<&'static str> {
-    let drafted = h.drafted();
-    let place = |p: u8| p == HOUSE || h.rooms.contains(p);
-    let rules = [
+/// A rule's words, and whether the records keep it.
+type Rule = (&'static str, bool);
+
+/// The bounds, of which the reader of images tests more.
+fn bounds(h: &House) -> [Rule; 5] {
+    [
         ("bounds of users", h.users.iter().all(|(n, u)| *n <= 63 && u.sort <= 2 && u.level <= 7)),
         ("bounds of rooms", h.rooms.iter().all(|r| (1..=16).contains(&r))),
         ("bounds of scripts", h.scripts.iter().all(|(n, s)| *n <= 63 && s.level <= 7)),
         ("bounds of sessions", h.sessions.iter().all(|(n, s)| *n <= 63 && s.level <= 7)),
         ("at most 256 live drafts", h.drafts.len() <= MOST_DRAFTS),
+    ]
+}
+
+/// The record rules. One that asks a record which is not there is kept: that it is missing breaks another.
+pub fn rules(h: &House, last: u32) -> [Rule; 18] {
+    let drafted = h.drafted();
+    let place = |p: u8| p == HOUSE || h.rooms.contains(p);
+    let owner = |s: &Session, fits: &dyn Fn(&User) -> bool| h.users.get(&s.owner).map_or(true, fits);
+    let origin = |d: &Draft, fits: &dyn Fn(u8) -> bool| h.scripts.get(&d.script).map_or(true, |s| fits(s.origin));
+    [
         ("rooms joined are there", h.users.values().all(|u| u.joined.is_subset(&h.rooms))),
         ("rooms led are there", h.users.values().all(|u| u.led.is_subset(&h.rooms))),
         ("origins are there", h.scripts.values().all(|s| place(s.origin))),
@@ -43,36 +54,38 @@ pub fn broken(h: &House, last: u32) -> Option<&'static str> {
             "RW sessions owned by staff (house) or members of their room",
             h.sessions.values().all(|s| match s.place {
                 None => true,
-                Some(HOUSE) => h.users[&s.owner].sort == STAFF,
-                Some(room) => h.users[&s.owner].joined.contains(room),
+                Some(HOUSE) => owner(s, &|u| u.sort == STAFF),
+                Some(room) => owner(s, &|u| u.joined.contains(room)),
             }),
         ),
         (
             "RW sessions within the owner's label",
-            h.sessions.values().all(|s| {
-                let owner = &h.users[&s.owner];
-                s.place.is_none() || s.level <= owner.level && s.c & !owner.c == 0
-            }),
+            h.sessions
+                .values()
+                .all(|s| s.place.is_none() || owner(s, &|u| s.level <= u.level && s.c & !u.c == 0)),
         ),
         (
             "a room script's drafts in that room only",
-            h.drafts.values().all(|d| {
-                let origin = h.scripts[&d.script].origin;
-                origin == HOUSE || d.places.len() == 1 && d.places.contains(origin)
-            }),
+            h.drafts
+                .values()
+                .all(|d| origin(d, &|o| o == HOUSE || d.places.len() == 1 && d.places.contains(o))),
         ),
         (
             "a house script's drafts with the house, or with exactly one room",
-            h.drafts.values().all(|d| {
-                h.scripts[&d.script].origin != HOUSE || d.places.contains(HOUSE) || d.places.len() == 1
-            }),
+            h.drafts
+                .values()
+                .all(|d| origin(d, &|o| o != HOUSE || d.places.contains(HOUSE) || d.places.len() == 1)),
         ),
         ("a place for each draft", h.drafts.values().all(|d| !d.places.is_empty())),
         ("a draft for each script", h.scripts.keys().all(|n| drafted[*n as usize])),
         // No two alike: the number is the key, and issuing one that is there stops the model.
         ("draft numbers from 1 to the counter", h.drafts.keys().all(|v| (1..=last).contains(v))),
-    ];
-    rules.iter().find(|(_, holds)| !holds).map(|(name, _)| *name)
+    ]
+}
+
+/// The words of those that are broken.
+pub fn broken(rules: impl IntoIterator<Item = Rule>) -> impl Iterator<Item = &'static str> {
+    rules.into_iter().filter(|(_, kept)| !kept).map(|(words, _)| words)
 }
 
 /// A desk that checks its every step. What is checked when:
@@ -81,9 +94,11 @@ pub fn broken(h: &House, last: u32) -> Option<&'static str> {
 /// - after a kept change: the record rules, and the records are the base with the kept changes replayed;
 /// - after a Take back: the record rules, and the records are those that stood before the change, kept as a copy;
 /// - each 100 requests, after the first thousand each time a tenth more are done, and at the end: base and records are
-///   those got by starting empty and applying every change not taken back.
+///   those got by starting as opened and applying every change not taken back.
 pub struct Checked {
     pub desk: Desk,
+    /// The records at the opening.
+    start: House,
     /// The records before each kept change, oldest first.
     before: VecDeque<House>,
     /// How many were answered.
@@ -101,7 +116,12 @@ fn hold(fact: bool, rule: &str) -> Result<(), String> {
 
 impl Checked {
     pub fn open(last: u32) -> Checked {
-        Checked { desk: Desk::open(last), before: VecDeque::new(), requests: 0, due: 100 }
+        Checked::of(Desk::open(last))
+    }
+
+    /// From a desk just opened.
+    pub fn of(desk: Desk) -> Checked {
+        Checked { start: desk.house.clone(), desk, before: VecDeque::new(), requests: 0, due: 100 }
     }
 
     /// Answers the request and checks the step; a broken rule is named.
@@ -145,13 +165,15 @@ impl Checked {
     }
 
     fn rules(&self) -> Result<(), String> {
-        broken(&self.desk.house, self.desk.last).map_or(Ok(()), |rule| Err(format!("record rule broken: {rule}")))
+        let Desk { house, last, .. } = &self.desk;
+        let first = broken(bounds(house).into_iter().chain(rules(house, *last))).next();
+        first.map_or(Ok(()), |rule| Err(format!("record rule broken: {rule}")))
     }
 
-    /// From the empty house: the base after the changes kept no longer, the records after those that are.
+    /// From the opening: the base after the changes kept no longer, the records after those that are.
     pub fn replay_all(&self) -> Result<(), String> {
         let (older, kept) = self.desk.split();
-        let base = House::default().replayed(older);
+        let base = self.start.replayed(older);
         hold(base == self.desk.base, "the base is not the replay of the older changes")?;
         hold(base.replayed(kept) == self.desk.house, "the records are not the replay of all changes")
     }

@@ -1,0 +1,185 @@
+// Holds the program to images of generated runs: saved, opened and gone on with, and compared with the same run in one piece.
+
+use crate::desk::{Answer, Desk};
+use crate::drive::{line_differs, Opening, Program, Wanted};
+use crate::generate::{generate, going_on, Chance};
+use crate::image;
+use crate::program::lines;
+use crate::request::{frame, Frame, Request};
+use crate::rules::Checked;
+
+const OPENINGS: [Opening; 6] = [
+    Opening::Plain,
+    Opening::Last(0),
+    Opening::Last(1),
+    Opening::Last(4_294_967_290),
+    Opening::Last(4_294_967_294),
+    Opening::Last(4_294_967_295),
+];
+
+fn image_of(desk: &Checked) -> Vec<u8> {
+    image::write(&desk.desk.house, desk.desk.last)
+}
+
+/// Opens what the desk saved, and holds the model to its own round trips.
+fn reopened(desk: &Checked) -> Result<Desk, String> {
+    let bytes = image_of(desk);
+    let (house, last) = image::read(&bytes).map_err(|refused| format!("the model refuses its image: {:?}", refused.wrong))?;
+    if (&house, last) != (&desk.desk.house, desk.desk.last) || image::write(&house, last) != bytes {
+        return Err("the model opens another desk than it saved".into());
+    }
+    Ok(Desk::of(house, last))
+}
+
+/// Has the program open a desk and answer the requests as the model's desk does; gives its lines.
+fn compare(program: &Program, opening: Opening, desk: &mut Checked, run: &[u8], why: bool) -> Result<String, String> {
+    let out = lines(desk, run, why)?;
+    let ran = program.run(opening, run, why).map_err(|error| error.to_string())?;
+    let saved = image_of(desk);
+    let wanted = Wanted { out: out.as_bytes(), errors: "", saved: Some(&saved) };
+    ran.differs(&wanted).map_or(Ok(out), Err)
+}
+
+/// Pairs of runs: one from an opening by number, saved; the other from its image, saved too.
+pub fn pairs(program: &Program, seed: u64, count: usize) -> Result<(), String> {
+    let (mut answered, mut largest, mut reasons) = (0, 0, 0);
+    for at in 0..count {
+        let seed = seed + at as u64;
+        let told = |what: String| format!("seed {seed}, pair {at}: {what}");
+        let mut chance = Chance::new(seed);
+        let opening = OPENINGS[at % OPENINGS.len()];
+        let why = at / OPENINGS.len() % 2 == 1;
+        let last = if let Opening::Last(last) = opening { last } else { 0 };
+        let mut desk = Checked::open(last);
+        // Some are long enough for a full desk.
+        let length = if at % 8 == 0 { 2000 } else { 10 + chance.below(500) };
+        let first = generate(chance.next(), length, last, false);
+        answered += compare(program, opening, &mut desk, &first, why).map_err(told)?.lines().count();
+        let bytes = image_of(&desk);
+        let again = reopened(&desk).map_err(told)?;
+        let length = 10 + chance.below(500);
+        let second = going_on(chance.next(), length, again.clone(), false);
+        let mut desk = Checked::of(again);
+        let told = |what: String| format!("seed {seed}, pair {at}, from the image: {what}");
+        let out = compare(program, Opening::From(&bytes), &mut desk, &second, why).map_err(told)?;
+        answered += out.lines().count();
+        reasons += why as usize;
+        largest = largest.max(bytes.len()).max(image_of(&desk).len());
+    }
+    if count < 60 || largest < 2500 || reasons < count / 3 {
+        return Err(format!("too little is tried: {count} pairs, {reasons} with reasons, images up to {largest} bytes"));
+    }
+    println!("{count} pairs of runs ({reasons} with reasons, {answered} lines, images of up to {largest} bytes)");
+    Ok(())
+}
+
+/// A run with a restart in it.
+struct Restarted {
+    before: Vec<u8>,
+    after: Vec<u8>,
+    /// What comes after the restart, without the take-backs that reach across it.
+    rest: Vec<u8>,
+    /// The lines, counted from 0 after the restart, of those take-backs.
+    across: Vec<usize>,
+}
+
+/// Plays the run with a restart after so many requests beside the run in one piece. A take-back reaches across the restart where
+/// the desk in one piece has a kept change and the one opened anew has none; without these both give the same answers.
+fn restart(run: &[u8], requests: usize) -> Result<Restarted, String> {
+    let mut whole = Checked::open(0);
+    let mut at = 0;
+    for _ in 0..requests {
+        let Frame::Whole(request, length) = frame(&run[at..]) else { break };
+        whole.answer(&request)?;
+        at += length;
+    }
+    let (before, after) = (run[..at].to_vec(), run[at..].to_vec());
+    let mut anew = Checked::of(reopened(&whole)?);
+    let (mut rest, mut across) = (Vec::new(), Vec::new());
+    for line in 0.. {
+        let left = &run[at..];
+        let Frame::Whole(request, length) = frame(left) else {
+            rest.extend(left);
+            break;
+        };
+        let answer = anew.answer(&request)?;
+        let none_kept = matches!((request, answer), (Request::TakeBack { .. }, Answer::Refused(12, _)));
+        if none_kept && whole.desk.kept > 0 {
+            across.push(line);
+        } else {
+            if whole.answer(&request)? != answer {
+                return Err(format!("the model answers otherwise after a restart, {} requests after it", line + 1));
+            }
+            rest.extend(&left[..length]);
+        }
+        at += length;
+    }
+    Ok(Restarted { before, after, rest, across })
+}
+
+/// A line without its ordinal.
+fn answers(lines: &str) -> impl Iterator<Item = &str> {
+    lines.lines().map(|line| line.split_once(' ').map_or(line, |(_, rest)| rest))
+}
+
+/// Runs with a restart in them: the lines are those of the run in one piece, except that take-backs across the restart are refused with 12.
+pub fn restarts(program: &Program, seed: u64, count: usize) -> Result<(), String> {
+    let (mut with, mut without, mut across, mut answered) = (0, 0, 0, 0);
+    for at in 0..count {
+        let seed = seed + at as u64;
+        let mut chance = Chance::new(seed);
+        let why = at % 2 == 1;
+        let length = 40 + chance.below(500);
+        let run = generate(chance.next(), length, 0, false);
+        let restarted = restart(&run, chance.below(length)).map_err(|what| format!("seed {seed}, restart {at}: {what}"))?;
+        let told = |what: String| format!("seed {seed}, restart {at} after {} bytes: {what}", restarted.before.len());
+        answered += one_restart(program, &restarted, why).map_err(told)?;
+        *(if restarted.across.is_empty() { &mut without } else { &mut with }) += 1;
+        across += restarted.across.len();
+    }
+    if with < 2 || without < 2 {
+        return Err(format!("too little is tried: {with} runs with take-backs across the restart, {without} without"));
+    }
+    println!("{count} restarts ({answered} lines; {without} runs as in one piece, {with} but for {across} take-backs across, refused with 12)");
+    Ok(())
+}
+
+fn one_restart(program: &Program, restarted: &Restarted, why: bool) -> Result<usize, String> {
+    let Restarted { before, after, rest, across } = restarted;
+    let mut desk = Checked::open(0);
+    let first = compare(program, Opening::Plain, &mut desk, before, why)?;
+    let saved = image_of(&desk);
+    let mut desk = Checked::of(reopened(&desk)?);
+    let second = compare(program, Opening::From(&saved), &mut desk, after, why)?;
+    let mut whole = Checked::open(0);
+    let one_piece = compare(program, Opening::Plain, &mut whole, &[&before[..], rest].concat(), why)?;
+    let refused = if why { "20 CC - 12 00 0 0 0" } else { "20 CC -" };
+    if across.iter().any(|line| answers(&second).nth(*line) != Some(refused)) {
+        return Err("a take-back across the restart is not refused with 12".into());
+    }
+    let kept = answers(&second).enumerate().filter(|(line, _)| !across.contains(line)).map(|(_, line)| line);
+    let both: Vec<&str> = answers(&first).chain(kept).collect();
+    let one: Vec<&str> = answers(&one_piece).collect();
+    if both != one {
+        return Err(format!("after the restart and in one piece: {}", line_differs(both.join("\n").as_bytes(), one.join("\n").as_bytes())));
+    }
+    if image_of(&desk) != image_of(&whole) {
+        return Err("the images after the restart and in one piece differ".into());
+    }
+    Ok(both.len() + across.len())
+}
+
+/// How many requests of the run, from the opening with 0 on, lead to the image; the fewest, and at least one.
+pub fn judged(run: &[u8], bytes: &[u8]) -> Option<usize> {
+    let mut desk = Desk::open(0);
+    let mut at = 0;
+    for requests in 1.. {
+        let Frame::Whole(request, length) = frame(&run[at..]) else { break };
+        desk.answer(&request);
+        at += length;
+        if image::write(&desk.house, desk.last) == bytes {
+            return Some(requests);
+        }
+    }
+    None
+}
