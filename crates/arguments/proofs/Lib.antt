@@ -1,2 +1,4 @@
--- The laws that the functions' proofs cite, and what a word leads to.
+-- The laws that the functions' proofs cite, and what words lead to.
 pub mod Words
+pub mod Digits
+pub mod Taken

@@ -1,14 +1,13 @@
--- Two words byte by byte; and a wrong word is wrong for good.
+-- Two words byte by byte.
 use mathlib.Core.Path.{_≡_, refl, sym, ap, _∙_}
-use mathlib.Core.Bool.{Bool, true, false, cond, not, _&&_}
-use mathlib.Core.List.{List, [], _∷_, foldl}
+use mathlib.Core.Bool.{Bool, true, false, _&&_}
+use mathlib.Core.List.{List, [], _∷_}
 use Prim.Native.Nat.{ℕ, zero, suc, _+_, _<_, _≤_}
 use native.Mathlib.Omega.{arith}
 use native.Mathlib.Numerals.{add-one}
 use lib.Dec.{eqb}
 use lib.ListN.{length, drop, getD}
-use Rattle.arguments.specs.Arguments.{same, whyWord, none, takeWord, taken}
-use Rattle.arguments.specs.declared.Arguments.{Arguments}
+use Rattle.arguments.specs.Arguments.{same}
 
 and-false : (t : Bool) → t && false ≡ false
 and-false true = refl
@@ -43,40 +42,3 @@ none-left [] (y ∷ ys) i l e = absurd (omega (arith, e))
 none-left (x ∷ xs) [] i l e = absurd (omega (arith, e))
 none-left (x ∷ xs) (y ∷ ys) zero l e = absurd (omega (arith, l))
 none-left (x ∷ xs) (y ∷ ys) (suc i) l e = none-left xs ys i (omega (arith, l)) (omega (arith, e))
-
--- ---- one word
-module _ (a : Arguments) (word : List ℕ) where
-  pub first-why : same word whyWord && not (a .why) ≡ true → record { why = true; usage = a .usage } ≡ takeWord a word
-  first-why e = ap (λ (t : Bool). cond {A = Arguments} t (record { why = true; usage = a .usage }) (record { why = a .why; usage = true })) (sym e)
-
-  pub other-word : same word whyWord && not (a .why) ≡ false → record { why = a .why; usage = true } ≡ takeWord a word
-  other-word e = ap (λ (t : Bool). cond {A = Arguments} t (record { why = true; usage = a .usage }) (record { why = a .why; usage = true })) (sym e)
-
--- ---- all words
-wrong-still : (a : Arguments) (word : List ℕ) → a .usage ≡ true → takeWord a word .usage ≡ true
-wrong-still a word wrong = by (same word whyWord && not (a .why))
-  where
-    by : (t : Bool) → cond {A = Arguments} t (record { why = true; usage = a .usage }) (record { why = a .why; usage = true }) .usage ≡ true
-    by true = wrong
-    by false = refl
-
-pub wrong-for-good : (words : List (List ℕ)) (a : Arguments) → a .usage ≡ true → foldl takeWord a words .usage ≡ true
-wrong-for-good [] a wrong = wrong
-wrong-for-good (word ∷ words) a wrong = wrong-for-good words (takeWord a word) (wrong-still a word wrong)
-
--- nothing, `--why`, and `--why` twice
-no-words : taken [] ≡ record { why = false; usage = false }
-no-words = refl
-
-why-once : taken (whyWord ∷ []) ≡ record { why = true; usage = false }
-why-once = refl
-
-why-twice : taken (whyWord ∷ whyWord ∷ []) ≡ record { why = true; usage = true }
-why-twice = refl
-
--- an empty word, and `--wh`
-empty-word : taken ([] ∷ []) ≡ record { why = false; usage = true }
-empty-word = refl
-
-cut-word : taken ((45 ∷ 45 ∷ 119 ∷ 104 ∷ []) ∷ []) ≡ record { why = false; usage = true }
-cut-word = refl

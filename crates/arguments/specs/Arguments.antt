@@ -1,9 +1,14 @@
--- What the words behind the program's name ask for. "Arguments come in any order, each at most once. Anything else (an unknown word, ..) prints one line that begins
--- `desk: usage:` on standard error, and nothing is read, judged or saved."
-use Prim.Native.Nat.{ℕ}
-use mathlib.Core.Bool.{Bool, true, false, cond, not, _&&_}
-use mathlib.Core.List.{List, [], _∷_, foldl}
+-- What the words behind the program's name ask for: `desk [--last N | --from IMAGE] [--save IMAGE] [--why]`.
+use Prim.Native.Nat.{ℕ, _+_}
+use mathlib.Core.Bool.{Bool, true, false, cond, not, _&&_, _||_}
+use mathlib.Core.List.{List, [], _∷_}
 use lib.Dec.{eqb}
+use Rattle.arguments.specs.Numbers.{numberOf, given}
+use Rattle.arguments.specs.declared.Number.the-variants.{Nothing}
+use Rattle.arguments.specs.declared.Next.{Next}
+use Rattle.arguments.specs.declared.Next.the-variants as next
+use Rattle.arguments.specs.declared.Word.{Word}
+use Rattle.arguments.specs.declared.Word.the-variants as word
 use Rattle.arguments.specs.declared.Arguments.{Arguments}
 
 -- two words, byte by byte
@@ -13,17 +18,66 @@ same [] (y ∷ ys) = false
 same (x ∷ xs) [] = false
 same (x ∷ xs) (y ∷ ys) = eqb x y && same xs ys
 
--- `--why`
+-- `--why`, `--last`, `--from`, `--save`
 abbrev pub whyWord : List ℕ
 whyWord = 45 ∷ 45 ∷ 119 ∷ 104 ∷ 121 ∷ []
 
+abbrev pub lastWord : List ℕ
+lastWord = 45 ∷ 45 ∷ 108 ∷ 97 ∷ 115 ∷ 116 ∷ []
+
+abbrev pub fromWord : List ℕ
+fromWord = 45 ∷ 45 ∷ 102 ∷ 114 ∷ 111 ∷ 109 ∷ []
+
+abbrev pub saveWord : List ℕ
+saveWord = 45 ∷ 45 ∷ 115 ∷ 97 ∷ 118 ∷ 101 ∷ []
+
+abbrev pub named : List ℕ → Word
+named w = cond (same w whyWord) word.Why (cond (same w lastWord) word.Last (cond (same w fromWord) word.From (cond (same w saveWord) word.Save word.Unknown)))
+
 abbrev pub none : Arguments
-none = record { why = false; usage = false }
+none = record { usage = false; next = next.Argument; why = false; last = Nothing; from = 0; save = 0 }
 
--- a word that no argument is, or that was taken before, is wrong, and stays so whatever follows
-abbrev pub takeWord : Arguments → List ℕ → Arguments
-takeWord a word = cond (same word whyWord && not (a .why)) (record { why = true; usage = a .usage }) (record { why = a .why; usage = true })
+-- an argument is asked for, with what the next word is: "Arguments come in any order, each at most once."
+abbrev pub asked : Arguments → Bool → Bool → Next → Arguments
+asked a twice why next = record { usage = a .usage || twice; next = next; why = why; last = a .last; from = a .from; save = a .save }
 
--- all words
-abbrev pub taken : List (List ℕ) → Arguments
-taken words = foldl takeWord none words
+-- "Anything else (an unknown word, ..)"
+abbrev pub unknown : Arguments → Arguments
+unknown a = record { usage = true; next = a .next; why = a .why; last = a .last; from = a .from; save = a .save }
+
+abbrev pub asks : Arguments → Word → Arguments
+asks a word.Why = asked a (a .why) true (a .next)
+asks a word.Last = asked a (given (a .last)) (a .why) next.Last
+asks a word.From = asked a (not (eqb (a .from) 0)) (a .why) next.From
+asks a word.Save = asked a (not (eqb (a .save) 0)) (a .why) next.Save
+asks a word.Unknown = unknown a
+
+-- "The word behind `--last`, `--from`, `--save` is its value, whatever it looks like": a number, or the place k of the word itself
+abbrev pub taken : Next → Arguments → ℕ → List ℕ → Arguments
+taken next.Argument a k w = asks a (named w)
+taken next.Last a k w =
+    record { usage = a .usage || not (given (numberOf w)); next = next.Argument; why = a .why; last = numberOf w; from = a .from; save = a .save }
+taken next.From a k w = record { usage = a .usage; next = next.Argument; why = a .why; last = a .last; from = k; save = a .save }
+taken next.Save a k w = record { usage = a .usage; next = next.Argument; why = a .why; last = a .last; from = a .from; save = k }
+
+abbrev pub takeWord : Arguments → ℕ → List ℕ → Arguments
+takeWord a k w = taken (a .next) a k w
+
+-- all words, with the first of these at place k; the first of all is at 1
+abbrev pub takeFrom : ℕ → Arguments → List (List ℕ) → Arguments
+takeFrom k a [] = a
+takeFrom k a (w ∷ ws) = takeFrom (k + 1) (takeWord a k w) ws
+
+abbrev pub takeAll : List (List ℕ) → Arguments
+takeAll ws = takeFrom 1 none ws
+
+abbrev pub valueWanted : Next → Bool
+valueWanted next.Argument = false
+valueWanted next.Last = true
+valueWanted next.From = true
+valueWanted next.Save = true
+
+-- "Anything else (an unknown word, a missing or malformed value, `--last` .. with `--from`; this comes before everything else) prints one line that begins
+-- `desk: usage:` on standard error, and nothing is read, judged or saved."
+abbrev pub wrong : Arguments → Bool
+wrong a = a .usage || valueWanted (a .next) || given (a .last) && not (eqb (a .from) 0)

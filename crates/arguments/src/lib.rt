@@ -1,11 +1,34 @@
 // The words behind the program's name, taken one at a time.
-ghost use mathlib.Core.Path.{_≡_};
-ghost use Rattle.arguments.specs.Arguments.{none as Arguments·none, same as Arguments·same, takeWord};
+mod numbers;
 
-// Whether the reasons are asked for, and whether a word was wrong.
+ghost use mathlib.Core.Path.{_≡_};
+ghost use Rattle.arguments.specs.Arguments.{none as Arguments·none, same as Arguments·same, named as Arguments·named};
+ghost use Rattle.arguments.specs.Arguments.{asks, takeWord, valueWanted, wrong as Arguments·wrong};
+ghost use Rattle.arguments.specs.Numbers.{given as Numbers·given, numberOr};
+use numbers::number_of;
+
+// What the next word is: an argument, or the value of the one before it.
+pub enum Next {
+    Argument,
+    Last,
+    From,
+    Save,
+}
+
+// The value of an argument that has a number, where it was given.
+pub enum Number {
+    Is(u32),
+    Nothing,
+}
+
+// Whether a word was wrong; and what was asked for. Of a file the place of its name among the words is kept, 0 where there is none.
 pub struct Arguments {
-    pub why: bool,
     pub usage: bool,
+    pub next: Next,
+    pub why: bool,
+    pub last: Number,
+    pub from: usize,
+    pub save: usize,
 }
 
 // Before the first word.
@@ -13,8 +36,12 @@ pub fn none() -> Arguments
     ensures { λ r. ⌜ r ≡ Arguments·none ⌝ }
 {
     Arguments {
-        why: false,
         usage: false,
+        next: Next::Argument,
+        why: false,
+        last: Number::Nothing,
+        from: 0,
+        save: 0,
     }
 }
 
@@ -34,19 +61,130 @@ fn same(a: &[u8], b: &[u8]) -> bool
     true
 }
 
-// One word more.
-pub fn take_word(arguments: Arguments, word: &[u8]) -> Arguments
-    ensures { λ r. ⌜ r ≡ takeWord arguments (now (word .entry)) ⌝ }
+// The arguments by name.
+enum Word {
+    Why,
+    Last,
+    From,
+    Save,
+    Unknown,
+}
+
+fn named(word: &[u8]) -> Word
+    ensures { λ r. ⌜ r ≡ Arguments·named (now (word .entry)) ⌝ }
 {
-    let is_why = same(word, b"--why");
-    if is_why & !arguments.why {
-        return Arguments {
+    if same(word, b"--why") {
+        return Word::Why;
+    }
+    if same(word, b"--last") {
+        return Word::Last;
+    }
+    if same(word, b"--from") {
+        return Word::From;
+    }
+    if same(word, b"--save") {
+        return Word::Save;
+    }
+    Word::Unknown
+}
+
+fn given(number: Number) -> bool
+    ensures { λ r. ⌜ r ≡ Numbers·given number ⌝ }
+{
+    match number {
+        Number::Is(_) => true,
+        Number::Nothing => false,
+    }
+}
+
+// A word that is no value: an argument that was asked for before is wrong, and so is a word that is none.
+fn ask(arguments: Arguments, word: Word) -> Arguments
+    ensures { λ r. ⌜ r ≡ asks arguments word ⌝ }
+{
+    let last = arguments.last;
+    match word {
+        Word::Why => Arguments {
+            usage: arguments.usage | arguments.why,
             why: true,
             ..arguments
-        };
+        },
+        Word::Last => Arguments {
+            usage: arguments.usage | given(last),
+            next: Next::Last,
+            ..arguments
+        },
+        Word::From => Arguments {
+            usage: arguments.usage | (arguments.from != 0),
+            next: Next::From,
+            ..arguments
+        },
+        Word::Save => Arguments {
+            usage: arguments.usage | (arguments.save != 0),
+            next: Next::Save,
+            ..arguments
+        },
+        Word::Unknown => Arguments {
+            usage: true,
+            ..arguments
+        },
     }
-    Arguments {
-        usage: true,
-        ..arguments
+}
+
+// One word more, which stands at place `at`: the first word behind the program's name at 1.
+pub fn take_word(arguments: Arguments, at: usize, word: &[u8]) -> Arguments
+    ensures { λ r. ⌜ r ≡ takeWord arguments at (now (word .entry)) ⌝ }
+{
+    let next = arguments.next;
+    match next {
+        Next::Argument => ask(arguments, named(word)),
+        Next::Last => {
+            let number = number_of(word);
+            Arguments {
+                usage: arguments.usage | !given(number),
+                next: Next::Argument,
+                last: number,
+                ..arguments
+            }
+        }
+        Next::From => Arguments {
+            next: Next::Argument,
+            from: at,
+            ..arguments
+        },
+        Next::Save => Arguments {
+            next: Next::Argument,
+            save: at,
+            ..arguments
+        },
+    }
+}
+
+fn value_wanted(next: Next) -> bool
+    ensures { λ r. ⌜ r ≡ valueWanted next ⌝ }
+{
+    match next {
+        Next::Argument => false,
+        Next::Last => true,
+        Next::From => true,
+        Next::Save => true,
+    }
+}
+
+// After the last word: whether these were no arguments.
+pub fn wrong(arguments: Arguments) -> bool
+    ensures { λ r. ⌜ r ≡ Arguments·wrong arguments ⌝ }
+{
+    let next = arguments.next;
+    let last = arguments.last;
+    arguments.usage | value_wanted(next) | (given(last) & (arguments.from != 0))
+}
+
+// The number of an argument, or what goes for it where it was not given.
+pub fn number_or(number: Number, other: u32) -> u32
+    ensures { λ r. ⌜ r ≡ numberOr number other ⌝ }
+{
+    match number {
+        Number::Is(n) => n,
+        Number::Nothing => other,
     }
 }

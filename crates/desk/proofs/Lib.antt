@@ -1,4 +1,4 @@
--- The laws that the functions' proofs cite, what is printed for an input in pieces, five lines worked out, and that the batch agrees.
+-- The laws that the functions' proofs cite, what is printed for an input in pieces, five lines worked out, that the batch agrees, and the folder of a name.
 pub mod Texts
 pub mod Frames
 pub mod Steps
@@ -6,3 +6,4 @@ pub mod Inputs
 pub mod Loop
 pub mod Examples
 pub mod Agrees
+pub mod Folders

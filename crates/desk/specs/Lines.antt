@@ -55,6 +55,10 @@ unfoldable pub lineOf : Bool → ℕ → ℕ → Answer → Reason → List ℕ
 lineOf why ordinal kind answer reason =
     decimal ordinal ++ middleOf kind (answerByte answer) ++ numberText answer ++ cond why (reasonText reason) [] ++ (10 ∷ [])
 
+-- "standard error has one line, `desk: IMAGE: refused 14` (or 15)": what stands behind the file's name
+abbrev pub refusedText : ℕ → List ℕ
+refusedText n = (58 ∷ 32 ∷ 114 ∷ 101 ∷ 102 ∷ 117 ∷ 115 ∷ 101 ∷ 100 ∷ 32 ∷ []) ++ decimal n ++ (10 ∷ [])
+
 -- a text was put behind the first `at` bytes, and now ends at `next`
 pub record Put (before : List ℕ) (at : ℕ) (text : List ℕ) (next : ℕ) (after : List ℕ) : Type 0 where
   pub ends : next ≡ at + length text

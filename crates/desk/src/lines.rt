@@ -4,7 +4,8 @@ ghost use mathlib.Core.Bool.{cond};
 ghost use mathlib.Core.List.{[]};
 ghost use Prim.Native.Nat.{_+_, _<_, _≤_};
 ghost use lib.ListN.{length};
-ghost use Rattle.desk.specs.Lines.{hexDigit, middleOf, decimal, numberText, numberPart, kindPart, reasonText, lineOf, Put};
+ghost use Rattle.io.specs.Counts.{Counts};
+ghost use Rattle.desk.specs.Lines.{hexDigit, middleOf, decimal, numberText, numberPart, kindPart, reasonText, lineOf, refusedText, Put};
 use history::Answer;
 use reasons::Reason;
 
@@ -44,7 +45,7 @@ fn kind_part(kind: u32) -> [u8; 3]
 }
 
 // A text goes behind the first `at` bytes of out; the answer is where it ends.
-fn append(out: &mut [u8], at: usize, text: &[u8]) -> usize
+pub(crate) fn append(out: &mut [u8], at: usize, text: &[u8]) -> usize
     requires { ⌜ at + length (now text) ≤ length (now out) ⌝ }
     ensures { λ r. ⌜ Put (now (out .entry)) at (now (text .entry)) r (now (out .exit)) ⌝ }
 {
@@ -113,4 +114,15 @@ pub(crate) fn line(
     let c = put_number(answer, out, b);
     let d = put_reason(why, reason, out, c);
     append(out, d, b"\n")
+}
+
+// As in `: refused 14`, behind the name of a file that is no image.
+pub(crate) fn refused(number: u8, out: &mut [u8], at: usize) -> usize
+    requires { ⌜ at + 31 ≤ length (now out) ⌝ }
+    ensures { λ r. ⌜ Put (now (out .entry)) at (refusedText number) r (now (out .exit)) ⌝ }
+    ensures { λ r. ⌜ Counts r (now (out .exit)) ⌝ }
+{
+    let a = append(out, at, b": refused ");
+    let b = put_decimal(number as u64, out, a);
+    append(out, b, b"\n")
 }

@@ -1,6 +1,8 @@
 // The program: reads requests from standard input to its end, and prints a line for each answer.
 mod answers;
+mod files;
 mod lines;
+mod names;
 mod pieces;
 
 ghost use mathlib.Core.Path.{_≡_};
@@ -76,16 +78,23 @@ fn text_room() -> [u8; 139264]
     [0; 139264]
 }
 
+// Room for a word: Linux passes none that is longer.
+fn word_room() -> [u8; 131072]
+    ensures { λ r. ⌜ 131072 ≡ length r ⌝ }
+{
+    [0; 131072]
+}
+
 // The words behind the program's name, each taken in its turn: that these are the words is trusted, what they ask for is decided in `take_word`.
-// One that is too long for the buffer is read as an empty word: both are unknown.
+// One that is too long for the buffer is read as an empty word: neither is an argument or a number, and of a name only the place is kept.
 fn words() -> Arguments {
     let count = os::arg_count();
     let mut taken = arguments::none();
-    let mut word = [0u8; 64];
+    let mut word = word_room();
     let mut i: usize = 1;
     while i < count {
         let n = os::arg(i, &mut word);
-        taken = arguments::take_word(taken, &word[..n]);
+        taken = arguments::take_word(taken, i, &word[..n]);
         i += 1;
     }
     taken
@@ -119,10 +128,10 @@ fn serve(why: bool) {
 
 fn main() {
     let arguments = words();
-    if arguments.usage {
+    if arguments::wrong(arguments) {
         io::write_all(
             STDERR_FILENO,
-            b"desk: usage: desk [--why] <requests >lines\n",
+            b"desk: usage: desk [--last N | --from IMAGE] [--save IMAGE] [--why] <requests >lines\n",
         );
         return;
     }

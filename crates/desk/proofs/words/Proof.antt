@@ -8,7 +8,7 @@ use Rattle.desk.proofs.words.Tie as tie
 
 abbrev Inv-loop : tie.InvT-loop
 Inv-loop count taken₀ word₀ i₀ taken word i =
-    length word ≡ 64
+    length word ≡ 131072
 
 abbrev μ-loop : tie.MeasureT-loop
 μ-loop count taken₀ word₀ i₀ taken word i =
@@ -16,4 +16,4 @@ abbrev μ-loop : tie.MeasureT-loop
 
 pub words-spec : {M : Type 1} → statement M
 words-spec =
-    tie.close (tie.spec Inv-loop μ-loop (λ c κs. search needs) (λ c κs. search needs) (λ c. search needs) (λ c. search needs) (λ c κs. search needs) (λ c. search needs) (λ c. search needs) (λ c κs. search needs) (λ c. search needs) (λ c. search needs) (λ c. search needs) (λ c. search needs))
+    tie.close (tie.spec Inv-loop μ-loop (λ c κs. search needs) (λ c κs. search needs) (λ c κs. search needs) (λ c. search needs) (λ c. search needs) (λ c κs. search needs) (λ c. search needs) (λ c. search needs) (λ c κs. search needs) (λ c. search needs) (λ c. search needs) (λ c. search needs) (λ c. search needs))
