@@ -8,15 +8,11 @@ use lib.ListN.{length, take, drop, length-append, length-take, length-drop}
 use lib.Seq.{length-take-le, take-at}
 use Rattle.records.specs.House.{House}
 use Rattle.effects.specs.declared.Change.{Change}
-use Rattle.history.specs.Machine.{Desk, opened}
+use Rattle.history.specs.Machine.{Desk}
 use Rattle.io.specs.Counts.{Counts}
 use Rattle.desk.specs.Turns.{Stand, stand, first, Turned, turn, standAfter, wentOn, TurnIs}
 use Rattle.desk.specs.declared.pieces.Turn.{Turn}
 use Rattle.desk.proofs.Steps.{part-length, ordinal-near, few-waiting}
-
--- a desk that was opened with some records and number was opened with those that it has
-pub just-opened : {d : Desk House Change} {h : House} {last : ℕ} → d ≡ opened h last → d ≡ opened (d .current) (d .last)
-just-opened e = e ∙ (λ i. opened (sym (ap (λ (d : Desk House Change). d .current) e) i) (sym (ap (λ (d : Desk House Change). d .last) e) i))
 
 -- d₀ is the desk that the program opened
 pub record Reached (why : Bool) (d₀ : Desk House Change) (s : Stand) : Type 0 where

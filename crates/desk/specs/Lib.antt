@@ -6,3 +6,4 @@ pub mod Turns
 pub mod Steps
 pub mod Names
 pub mod Files
+pub mod Opened

@@ -1,4 +1,4 @@
-// The program: reads requests from standard input to its end, and prints a line for each answer.
+// The program: opens a desk, reads requests from standard input to its end, prints a line for each answer, and saves the desk where that is asked for.
 mod answers;
 mod files;
 mod lines;
@@ -7,15 +7,16 @@ mod pieces;
 
 ghost use mathlib.Core.Path.{_≡_};
 ghost use lib.ListN.{length};
-ghost use Rattle.records.specs.House.{view, emptyHouse};
-ghost use Rattle.history.specs.Machine.{opened};
 ghost use Rattle.history.specs.Desk.{shown};
+ghost use Rattle.desk.specs.Opened.{JustOpened};
 use arguments::Arguments;
-use history::Desk;
+use files::Got;
+use image::Written;
 use libc::STDERR_FILENO;
 use libc::STDIN_FILENO;
 use libc::STDOUT_FILENO;
 use log::Log;
+use opening::Opening;
 use records::Cells;
 
 // The loop only reads, has each piece answered and writes its text: what is printed, what waits and whether to go on is decided in `answer_piece`.
@@ -32,7 +33,7 @@ fn run(
     buf: &mut [u8],
     out: &mut [u8],
 )
-    requires { ⌜ shown (now base) (now log) (now current) (now last) ≡ opened (view (now current)) (now last) ⌝ }
+    requires { ⌜ JustOpened (shown (now base) (now log) (now current) (now last)) ⌝ }
     requires { ⌜ (length (now buf) ≡ 1024) × (length (now out) ≡ 139264) ⌝ }
 {
     let mut ordinal: u64 = 1;
@@ -100,30 +101,78 @@ fn words() -> Arguments {
     taken
 }
 
-// The desk that the program opens: without records, and with 0.
-fn start() -> Desk
-    ensures { λ r. ⌜ shown (r .base) (r .log) (r .current) (r .last) ≡ opened emptyHouse 0 ⌝ }
-{
-    history::open(0)
+// An image of any desk has room here.
+fn save_image(word: usize, current: &Cells, last: u32) {
+    let mut image = [0u8; 4453];
+    let Written::Bytes(n) = image::save(current, last, &mut image) else {
+        return;
+    };
+    files::write_image(word, &image[..n]);
 }
 
-fn serve(why: bool) {
-    let desk = start();
+// The input is answered, and the desk as it then stands is saved where that is asked for: also where a line could not be printed or a read failed, since
+// the numbers that were given may have been seen.
+fn answer(
+    why: bool,
+    save: usize,
+    base: &mut Cells,
+    log: &mut Log,
+    current: &mut Cells,
+    last: &mut u32,
+)
+    requires { ⌜ JustOpened (shown (now base) (now log) (now current) (now last)) ⌝ }
+{
+    let mut buf = [0u8; 1024];
+    let mut out = text_room();
+    run(why, base, log, current, last, &mut buf, &mut out);
+    if save != 0 {
+        save_image(save, current, *last);
+    }
+}
+
+// A desk without records, with the last number already used.
+fn serve_new(why: bool, save: usize, number: u32) {
+    let desk = history::open(number);
     let mut base = desk.base;
     let mut log = desk.log;
     let mut current = desk.current;
     let mut last = desk.last;
-    let mut buf = [0u8; 1024];
-    let mut out = text_room();
-    run(
-        why,
+    answer(why, save, &mut base, &mut log, &mut current, &mut last);
+}
+
+// One byte more than a file may have that is tried as an image.
+fn image_room() -> [u8; 65537]
+    ensures { λ r. ⌜ 65537 ≡ length r ⌝ }
+{
+    [0; 65537]
+}
+
+// The desk of an image. What is refused is told, and nothing is answered: the numbers of the empty desk would start again.
+fn serve_image(why: bool, save: usize, from: usize) {
+    let mut image = image_room();
+    let Got::Bytes(n) = files::read_image(from, &mut image) else {
+        return;
+    };
+    if 65536 < n {
+        files::tell_refused(from, 15);
+        return;
+    }
+    let desk = history::open(0);
+    let mut base = desk.base;
+    let mut log = desk.log;
+    let mut current = desk.current;
+    let mut last = desk.last;
+    let opening = opening::open_desk(
+        &image[..n],
         &mut base,
         &mut log,
         &mut current,
         &mut last,
-        &mut buf,
-        &mut out,
     );
+    match opening {
+        Opening::Opened => answer(why, save, &mut base, &mut log, &mut current, &mut last),
+        Opening::Refused(number) => files::tell_refused(from, number),
+    }
 }
 
 fn main() {
@@ -135,5 +184,12 @@ fn main() {
         );
         return;
     }
-    serve(arguments.why);
+    let why = arguments.why;
+    let save = arguments.save;
+    if arguments.from != 0 {
+        serve_image(why, save, arguments.from);
+        return;
+    }
+    let last = arguments.last;
+    serve_new(why, save, arguments::number_or(last, 0));
 }

@@ -1,0 +1,25 @@
+-- `serve_image` hands over a desk that was just opened from an image.
+use borrow.Author.Needs.{needs}
+use mathlib.Core.Path.{subst}
+use Rattle.desk.specs.Files.{Within}
+use Rattle.desk.specs.Opened.{with-image}
+use Rattle.desk.specs.declared.files.Got.{Got}
+use Rattle.desk.proofs.serve_image.Statement.{statement}
+use Rattle.desk.proofs.serve_image.Tie as tie
+
+slice-aggregate-open-desk : tie.Need-slice-aggregate-open-desk
+slice-aggregate-open-desk c =
+    let n = c .before .before .before .before .before .before .before .n .given in
+    let r = c .before .before .before .before .before .before .before .before .before .before .read-image in
+    subst (λ (g : Got). Within g (r .last .1 .0)) (n .1) (r .ensures) .1
+
+answer-requires : tie.Need-answer-requires
+answer-requires c κs =
+    let o = c .before .before .before .before .before .before .open-desk in
+    with-image _ (rw (c .before .before .before .before .enum-told2 .given .1) at (o .ensures))
+
+pub serve-image-spec : {M : Type 1} → statement M
+serve-image-spec =
+    tie.close
+    (tie.spec (λ c κs. search needs) (λ c. search needs) (λ c κs. search needs) (λ c. search needs) (λ c. search needs) (λ c. search needs) (λ c κs. search needs) (λ c. search needs)
+    (λ c κs. search needs) (λ c. search needs) slice-aggregate-open-desk (λ c κs. search needs) (λ c. search needs) answer-requires (λ c. search needs) (λ c κs. search needs) (λ c. search needs) (λ c. search needs))
