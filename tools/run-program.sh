@@ -25,6 +25,9 @@ else
     set -- "$program" "$@"
 fi
 
+# A reader that goes away does not end the program, which may have something to save: its write fails, with a reason.
+trap '' PIPE
+
 # A program in Rattle has no exit status of its own: what it says on standard error, just before it ends, is the only sign
 # of a failed read or write.
 exec 3>&1

@@ -162,13 +162,7 @@ fn serve_image(why: bool, save: usize, from: usize) {
     let mut log = desk.log;
     let mut current = desk.current;
     let mut last = desk.last;
-    let opening = opening::open_desk(
-        &image[..n],
-        &mut base,
-        &mut log,
-        &mut current,
-        &mut last,
-    );
+    let opening = opening::open_desk(&image[..n], &mut base, &mut log, &mut current, &mut last);
     match opening {
         Opening::Opened => answer(why, save, &mut base, &mut log, &mut current, &mut last),
         Opening::Refused(number) => files::tell_refused(from, number),
