@@ -3,7 +3,7 @@ use Prim.Native.Nat.{ℕ, _+_}
 use mathlib.Core.Bool.{Bool, true, false, cond, not, _&&_, _||_}
 use mathlib.Core.List.{List, [], _∷_}
 use lib.Dec.{eqb}
-use Rattle.arguments.specs.Numbers.{numberOf, given}
+use Rattle.arguments.specs.Numbers.{numberOf, given, numberOr}
 use Rattle.arguments.specs.declared.Number.the-variants.{Nothing}
 use Rattle.arguments.specs.declared.Next.{Next}
 use Rattle.arguments.specs.declared.Next.the-variants as next
@@ -81,3 +81,7 @@ valueWanted next.Save = true
 -- `desk: usage:` on standard error, and nothing is read, judged or saved."
 abbrev pub wrong : Arguments → Bool
 wrong a = a .usage || valueWanted (a .next) || given (a .last) && not (eqb (a .from) 0)
+
+-- "opens with the last number already used N"; without arguments "opens with 0"
+abbrev pub lastNumber : Arguments → ℕ
+lastNumber a = numberOr (a .last) 0

@@ -3,7 +3,7 @@ mod numbers;
 
 ghost use mathlib.Core.Path.{_≡_};
 ghost use Rattle.arguments.specs.Arguments.{none as Arguments·none, same as Arguments·same, named as Arguments·named};
-ghost use Rattle.arguments.specs.Arguments.{asks, takeWord, valueWanted, wrong as Arguments·wrong};
+ghost use Rattle.arguments.specs.Arguments.{asks, takeWord, valueWanted, wrong as Arguments·wrong, lastNumber};
 ghost use Rattle.arguments.specs.Numbers.{given as Numbers·given, numberOr};
 use numbers::number_of;
 
@@ -180,11 +180,19 @@ pub fn wrong(arguments: Arguments) -> bool
 }
 
 // The number of an argument, or what goes for it where it was not given.
-pub fn number_or(number: Number, other: u32) -> u32
+fn number_or(number: Number, other: u32) -> u32
     ensures { λ r. ⌜ r ≡ numberOr number other ⌝ }
 {
     match number {
         Number::Is(n) => n,
         Number::Nothing => other,
     }
+}
+
+// The last number already used, with which the desk is opened.
+pub fn last_number(arguments: Arguments) -> u32
+    ensures { λ r. ⌜ r ≡ lastNumber arguments ⌝ }
+{
+    let last = arguments.last;
+    number_or(last, 0)
 }

@@ -10,7 +10,7 @@ use Rattle.records.specs.House.{House}
 use Rattle.effects.specs.declared.Change.{Change}
 use Rattle.history.specs.Machine.{Desk}
 use Rattle.io.specs.Counts.{Counts}
-use Rattle.desk.specs.Turns.{Stand, stand, first, Turned, turn, standAfter, wentOn, TurnIs}
+use Rattle.desk.specs.Turns.{Stand, stand, first, Turned, turn, standAfter, wentOn, LedTo, TurnIs}
 use Rattle.desk.specs.declared.pieces.Turn.{Turn}
 use Rattle.desk.proofs.Steps.{part-length, ordinal-near, few-waiting}
 
@@ -58,6 +58,9 @@ at-start why d buf out b o =
       reached = record { pieces = []; went = refl; is = refl };
     }
 
+pub led-now : {why : Bool} {d₀ d : Desk House Change} {ordinal have turns : ℕ} {buf out : List ℕ} → Between why d₀ d ordinal have turns buf out → LedTo why d₀ d
+led-now b = record { pieces = b .reached .pieces; is = ap (λ (s : Stand). s .desk) (b .reached .is) }
+
 -- bytes were read behind the first `have` bytes of buf
 abbrev pub filled : List ℕ → ℕ → List ℕ → List ℕ
 filled buf have bytes = take have buf ++ (bytes ++ drop (length buf - have) (drop have buf))
@@ -98,4 +101,15 @@ module _ {why : Bool} {d₀ d : Desk House Change} {ordinal have turns : ℕ} {b
               let here : Reached why d₀ s = subst (λ (w : List ℕ). Reached why d₀ (stand d ordinal w)) (sym same) (between .reached) in
               let next : turn why s piece .next ≡ stand d′ (r .ordinal) (take (r .have) buf′) = λ i. stand (sym (is .desk) i) (sym (is .ordinal) i) (sym (is .waiting) i) in
               subst (Reached why d₀) next (reached-on why d₀ s here piece goes);
+        }
+
+    -- whether its text could be written or not
+    pub led-on : LedTo why d₀ d′
+    led-on =
+        let s : Stand = stand d ordinal (take have read) in
+        let piece : List ℕ = take got (drop have read) in
+        let here : Reached why d₀ s = subst (λ (w : List ℕ). Reached why d₀ (stand d ordinal w)) (sym same) (between .reached) in
+        record {
+          pieces = here .pieces ++ (piece ∷ []);
+          is = ap (λ (x : Stand). x .desk) (after-one-more why (first d₀) (here .pieces) piece ∙ ap (λ (x : Stand). turn why x piece .next) (here .is)) ∙ sym (is .desk);
         }

@@ -83,6 +83,11 @@ abbrev pub wentOn : Bool → Stand → List (List ℕ) → Bool
 wentOn why s [] = true
 wentOn why s (piece ∷ more) = turn why s piece .onward && wentOn why (turn why s piece .next) more
 
+-- the desk that some pieces lead to, from the desk d₀ that the program opened
+pub record LedTo (why : Bool) (d₀ d : Desk House Change) : Type 0 where
+  pub pieces : List (List ℕ)
+  pub is : standAfter why (first d₀) pieces .desk ≡ d
+
 -- pieces as reads give them before the input ends, each of some bytes, and the input that they are
 abbrev pub Pieces : List (List ℕ) → Type 0
 Pieces [] = Unit {0}

@@ -9,6 +9,7 @@ ghost use mathlib.Core.Path.{_≡_};
 ghost use lib.ListN.{length};
 ghost use Rattle.history.specs.Desk.{shown};
 ghost use Rattle.desk.specs.Opened.{JustOpened};
+ghost use Rattle.desk.specs.Turns.{LedTo};
 use arguments::Arguments;
 use files::Got;
 use image::Written;
@@ -35,6 +36,7 @@ fn run(
 )
     requires { ⌜ JustOpened (shown (now base) (now log) (now current) (now last)) ⌝ }
     requires { ⌜ (length (now buf) ≡ 1024) × (length (now out) ≡ 139264) ⌝ }
+    ensures { λ _. ⌜ LedTo why (shown (now (base .entry)) (now (log .entry)) (now (current .entry)) (now (last .entry))) (shown (now (base .exit)) (now (log .exit)) (now (current .exit)) (now (last .exit))) ⌝ }
 {
     let mut ordinal: u64 = 1;
     let mut have: usize = 0;
@@ -184,6 +186,5 @@ fn main() {
         serve_image(why, save, arguments.from);
         return;
     }
-    let last = arguments.last;
-    serve_new(why, save, arguments::number_or(last, 0));
+    serve_new(why, save, arguments::last_number(arguments));
 }

@@ -8,7 +8,7 @@ use lib.ListN.{length}
 use borrow.Author.Tests.{not-false}
 use denote.Ref.{now}
 use Rattle.history.specs.Desk.{shown}
-use Rattle.desk.proofs.Loop.{Between, at-start, filled, filled-length, filled-same, text-there, again}
+use Rattle.desk.proofs.Loop.{Between, at-start, filled, filled-length, filled-same, text-there, again, led-now, led-on}
 use Rattle.desk.proofs.Steps.{part-length}
 use Rattle.desk.proofs.run.Statement.{statement}
 use Rattle.desk.proofs.run.Tie as tie
@@ -84,6 +84,38 @@ loop-again c =
     let a = c .before .before .before .before .before .before .before .before .before .answer-piece in
     again i B (filled-same (l .buf) (l .have) (read .last .1 .0) inside) (n .result) room (size ∙ i .buf-length) (a .result) (a .last .1 .1 .1 .1 .1 .1 .0) (a .last .1 .1 .1 .1 .1 .1 .1 .1 .1 .0) (a .ensures) (omega (arith, c .before .before .before .before .before .before .before .before .before .before .before .before .before .before .before .before .before .before .before .before .before .before .before .before .loop-test)) (a .kept .1 .1 .1 .1 .1 .1 .0 ∙ size ∙ i .buf-length) (a .kept .1 .1 .1 .1 .1 .1 .1 .1 .1 .0 ∙ i .out-length) (not-false _ (c .if3 .left))
 
+returns : tie.Need-returns Inv-loop μ-loop
+returns c = led-now (c .before .before .before .before .before .before .before .before .loop .inv)
+
+returns-2 : tie.Need-returns-2 Inv-loop μ-loop
+returns-2 c =
+    let l = c .before .before .before .before .before .before .before .before .before .before .before .before .before .before .before .before .before .before .before .before .before .before .before .before .before .loop in
+    let i = l .inv in
+    let read = c .before .before .before .before .before .before .before .before .before .before .before .before .before .before .before .before .before .before .before .before .before .before .read in
+    let B : List ℕ = filled (l .buf) (l .have) (read .last .1 .0) in
+    let inside : l .have ≤ length (l .buf) = omega (arith, i .few, i .buf-length) in
+    let size : length B ≡ length (l .buf) = filled-length (l .buf) (l .have) (read .last .1 .0) inside (read .kept .1 .0) in
+    let n = c .before .before .before .before .before .before .before .before .before .before .before .before .before .before .before .before .count in
+    let room : l .have + n .result ≤ length B = omega (arith, size, inside, n .ensures .0 .0, part-length (l .have) B) in
+    let a = c .before .before .before .before .before .before .before .before .before .answer-piece in
+    led-on i B (filled-same (l .buf) (l .have) (read .last .1 .0) inside) (n .result) room (size ∙ i .buf-length) (a .result) (a .last .1 .1 .1 .1 .1 .1 .0) (a .last .1 .1 .1 .1 .1 .1 .1 .1 .1 .0) (a .ensures)
+
+returns-3 : tie.Need-returns-3 Inv-loop μ-loop
+returns-3 c =
+    let l = c .before .before .before .before .before .before .before .before .before .before .before .before .before .before .before .before .before .before .before .before .before .before .before .before .before .loop in
+    let i = l .inv in
+    let read = c .before .before .before .before .before .before .before .before .before .before .before .before .before .before .before .before .before .before .before .before .before .before .read in
+    let B : List ℕ = filled (l .buf) (l .have) (read .last .1 .0) in
+    let inside : l .have ≤ length (l .buf) = omega (arith, i .few, i .buf-length) in
+    let size : length B ≡ length (l .buf) = filled-length (l .buf) (l .have) (read .last .1 .0) inside (read .kept .1 .0) in
+    let n = c .before .before .before .before .before .before .before .before .before .before .before .before .before .before .before .before .count in
+    let room : l .have + n .result ≤ length B = omega (arith, size, inside, n .ensures .0 .0, part-length (l .have) B) in
+    let a = c .before .before .before .before .before .before .before .before .before .answer-piece in
+    led-on i B (filled-same (l .buf) (l .have) (read .last .1 .0) inside) (n .result) room (size ∙ i .buf-length) (a .result) (a .last .1 .1 .1 .1 .1 .1 .0) (a .last .1 .1 .1 .1 .1 .1 .1 .1 .1 .0) (a .ensures)
+
+returns-4 : tie.Need-returns-4 Inv-loop μ-loop
+returns-4 c = led-now (c .before .loop .inv)
+
 pub run-spec : {M : Type 1} → statement M
 run-spec =
-    tie.close (tie.spec Inv-loop μ-loop loop-holds (λ c. search needs) (λ c. search needs) (λ c. search needs) (λ c κs. search needs) (λ c. search needs) (λ c κs. search needs) (λ c. search needs) (λ c. search needs) (λ c. search needs) (λ c. search needs) (λ c. search needs) (λ c. search needs) (λ c κs. search needs) answer-piece-requires slice-reshare-prefix-write-all slice-aggregate-write-all (λ c κs. search needs) (λ c. search needs) (λ c κs. search needs) same-length-3 same-length-4 (λ c. search needs) same-length-5 same-length-6 (λ c. search needs) (λ c. search needs) (λ c. search needs) loop-again (λ c. search needs) (λ c. search needs) (λ c. search needs))
+    tie.close (tie.spec Inv-loop μ-loop loop-holds (λ c. search needs) (λ c. search needs) (λ c. search needs) (λ c κs. search needs) (λ c. search needs) (λ c κs. search needs) (λ c. search needs) (λ c. search needs) returns (λ c. search needs) (λ c. search needs) (λ c. search needs) (λ c κs. search needs) answer-piece-requires slice-reshare-prefix-write-all slice-aggregate-write-all (λ c κs. search needs) (λ c. search needs) (λ c κs. search needs) same-length-3 same-length-4 returns-2 same-length-5 same-length-6 returns-3 (λ c. search needs) (λ c. search needs) loop-again (λ c. search needs) (λ c. search needs) returns-4)
