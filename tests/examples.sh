@@ -1,10 +1,11 @@
 #!/bin/sh
-# Runs the examples through the program, with and without --why, and compares its lines with those stored beside them. DESK names another program.
+# Runs the examples through the program, with and without --why, and compares its lines with those stored beside them; the image that the evening leaves too. DESK
+# names another program.
 set -eu
 root=$(CDPATH='' cd -- "$(dirname -- "$0")/.." && pwd -P)
 cd "$root"
 lines=0
-compare() { # EXPECTED [--why] [FILE]
+compare() { # EXPECTED [--why] [--from IMAGE] [FILE]
     expected=$1
     shift
     got=$(sh examples/run "$@")
@@ -21,4 +22,15 @@ compare examples/evening.out
 compare examples/evening.why --why
 compare examples/refused.out examples/refused.hex
 compare examples/refused.why --why examples/refused.hex
+compare examples/monday.out --from examples/saturday.hex examples/monday.hex
+compare examples/monday.why --why --from examples/saturday.hex examples/monday.hex
+
+# The image in hex is the one that the evening leaves.
+work=$(mktemp -d)
+trap 'rm -rf "$work"' EXIT
+trap 'exit 1' HUP INT TERM
+sh examples/run --save "$work/image" > /dev/null
+od -An -v -tx1 "$work/image" | tr -d ' \n' > "$work/saved"
+sed -e 's/#.*//' examples/saturday.hex | tr -d '[:space:]' | tr 'A-F' 'a-f' > "$work/written"
+cmp -s "$work/saved" "$work/written" || { echo "examples: the evening leaves another image than examples/saturday.hex" >&2; exit 1; }
 echo "examples: ok, $lines lines"
