@@ -7,3 +7,4 @@ pub mod Loop
 pub mod Examples
 pub mod Agrees
 pub mod Folders
+pub mod Opened

@@ -6,9 +6,13 @@ mod names;
 mod pieces;
 
 ghost use mathlib.Core.Path.{_≡_};
-ghost use lib.ListN.{length};
+ghost use lib.ListN.{length, take};
+ghost use Rattle.io.specs.Counts.{Counts};
+ghost use Rattle.records.specs.House.{view};
+ghost use Rattle.image.specs.Image.{imageOf};
 ghost use Rattle.history.specs.Desk.{shown};
-ghost use Rattle.desk.specs.Opened.{JustOpened};
+ghost use Rattle.opening.specs.Desks.{opensDesk};
+ghost use Rattle.desk.specs.Opened.{fileBy, JustOpened};
 ghost use Rattle.desk.specs.Turns.{LedTo};
 use arguments::Arguments;
 use files::Got;
@@ -103,12 +107,21 @@ fn words() -> Arguments {
     taken
 }
 
-// An image of any desk has room here.
+// The image of the desk, at the front of a buffer that has room for any.
+fn image_of(current: &Cells, last: u32, out: &mut [u8]) -> usize
+    requires { ⌜ length (now out) ≡ 4453 ⌝ }
+    ensures { λ r. ⌜ take r (now (out .exit)) ≡ imageOf (view (now (current .entry))) last ⌝ }
+    ensures { λ r. ⌜ Counts r (now (out .exit)) ⌝ }
+{
+    let Written::Bytes(n) = image::save(current, last, out) else {
+        return 0;
+    };
+    n
+}
+
 fn save_image(word: usize, current: &Cells, last: u32) {
     let mut image = [0u8; 4453];
-    let Written::Bytes(n) = image::save(current, last, &mut image) else {
-        return;
-    };
+    let n = image_of(current, last, &mut image);
     files::write_image(word, &image[..n]);
 }
 
@@ -149,22 +162,33 @@ fn image_room() -> [u8; 65537]
     [0; 65537]
 }
 
+fn open_file(
+    bytes: &[u8],
+    base: &mut Cells,
+    log: &mut Log,
+    current: &mut Cells,
+    last: &mut u32,
+) -> Opening
+    ensures { λ r. ⌜ opensDesk r (shown (now (base .exit)) (now (log .exit)) (now (current .exit)) (now (last .exit))) ≡ fileBy (shown (now (base .entry)) (now (log .entry)) (now (current .entry)) (now (last .entry))) (now (bytes .entry)) ⌝ }
+{
+    if 65536 < bytes.len() {
+        return Opening::Refused(15);
+    }
+    opening::open_desk(bytes, base, log, current, last)
+}
+
 // The desk of an image. What is refused is told, and nothing is answered: the numbers of the empty desk would start again.
 fn serve_image(why: bool, save: usize, from: usize) {
     let mut image = image_room();
     let Got::Bytes(n) = files::read_image(from, &mut image) else {
         return;
     };
-    if 65536 < n {
-        files::tell_refused(from, 15);
-        return;
-    }
     let desk = history::open(0);
     let mut base = desk.base;
     let mut log = desk.log;
     let mut current = desk.current;
     let mut last = desk.last;
-    let opening = opening::open_desk(&image[..n], &mut base, &mut log, &mut current, &mut last);
+    let opening = open_file(&image[..n], &mut base, &mut log, &mut current, &mut last);
     match opening {
         Opening::Opened => answer(why, save, &mut base, &mut log, &mut current, &mut last),
         Opening::Refused(number) => files::tell_refused(from, number),
