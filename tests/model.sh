@@ -95,10 +95,11 @@ sh "$root/tests/runs.sh" "$model" document >/dev/null || fail "the model fails t
 "$model" stored "$root"/tests/runs/*.hex > "$work/stored" || { cat "$work/stored"; fail "the stored runs miss a condition"; }
 echo "stored: $(tail -n 1 "$work/stored")"
 
-# Opened at 4,294,967,294: one number, then 11. The program opens with 0, so the model shows this alone.
+# Opened at 4,294,967,294: one number, then 11.
 printf '\001\000\000\000\005\000\003\001\021\000\000\002\000\001\025\000\000\025\000\001' > "$work/run"
-"$model" run --opened 4294967294 --why < "$work/run" | tail -n 2 > "$work/got"
-printf '3 15 81 4294967295 0 00 0 0 0\n4 15 CB - 11 00 0 4294967295 4294967295\n' | cmp -s - "$work/got" || fail "the model fails at the last number"
+printf '3 15 81 4294967295 0 00 0 0 0\n4 15 CB - 11 00 0 4294967295 4294967295\n' > "$work/expected"
+"$model" run --last 4294967294 --why < "$work/run" | tail -n 2 | cmp -s "$work/expected" - || fail "the model fails at the last number"
+"$desk" --last 4294967294 --why < "$work/run" | tail -n 2 | cmp -s "$work/expected" - || fail "the program fails at the last number"
 
 # The stored cases of edges, which were written by hand.
 cases=$root/crates/edges/stdin

@@ -1,4 +1,4 @@
--- The record rules of 01, "Every desk reached from an opening meets these record rules": a test for each clause, which code can make too.
+-- The record rules of 01, "Every desk reached from an opening meets these record rules": a test for each clause, which code makes too.
 use Prim.Native.Nat.{ℕ}
 use mathlib.Core.Bool.{Bool, true, not, _&&_, _||_}
 use mathlib.Core.List.{List, [], _∷_}
