@@ -83,6 +83,12 @@ pub enum Found {
     Nothing,
 }
 
+// The rule that a desk is opened under, for its whole life: what Import asks of the labels of two scripts.
+pub enum Rule {
+    One,
+    Two,
+}
+
 // The type says how many cells there are; a slice of them tells the proof.
 fn count(cells: &[u32]) -> usize
     ensures { λ r. ⌜ r ≡ length (now (cells .entry)) ⌝ }
