@@ -19,38 +19,39 @@ use Rattle.batch.specs.Batch.{State, Result, runOver, runBatch}
 use Rattle.batch.specs.Pieces.{behind}
 use Rattle.batch.specs.declared.Stop.{Stop}
 use Rattle.batch.proofs.Steps.{answered, stopped, over-none, over-unknown, over-cut, over-no-room, over-request}
+use Rattle.records.specs.declared.Rule.{Rule}
 
-pub data Runs : State → List ℕ → ℕ → Result → Type 0 where
-  no-bytes : {d : State} {b : List ℕ} {room : ℕ} → b ≡ [] → Runs d b room (stopped d Stop.End [])
-  no-room : {d : State} {b : List ℕ} {room : ℕ} → 0 < length b → room < 5 → Runs d b room (stopped d Stop.NoRoom [])
-  unknown : {d : State} {b : List ℕ} {room : ℕ} → 0 < length b → 5 ≤ room → frameOf b ≡ Frame.Unknown → Runs d b room (stopped d Stop.Unknown (0xC1 ∷ []))
-  cut : {d : State} {b : List ℕ} {room : ℕ} → 0 < length b → 5 ≤ room → frameOf b ≡ Frame.Cut → Runs d b room (stopped d Stop.Cut (0xC2 ∷ []))
+pub data Runs (rule : Rule) : State → List ℕ → ℕ → Result → Type 0 where
+  no-bytes : {d : State} {b : List ℕ} {room : ℕ} → b ≡ [] → Runs rule d b room (stopped d Stop.End [])
+  no-room : {d : State} {b : List ℕ} {room : ℕ} → 0 < length b → room < 5 → Runs rule d b room (stopped d Stop.NoRoom [])
+  unknown : {d : State} {b : List ℕ} {room : ℕ} → 0 < length b → 5 ≤ room → frameOf b ≡ Frame.Unknown → Runs rule d b room (stopped d Stop.Unknown (0xC1 ∷ []))
+  cut : {d : State} {b : List ℕ} {room : ℕ} → 0 < length b → 5 ≤ room → frameOf b ≡ Frame.Cut → Runs rule d b room (stopped d Stop.Cut (0xC2 ∷ []))
   request : {d : State} {b : List ℕ} {room : ℕ} → 0 < length b → 5 ≤ room → (q : Request) → frameOf b ≡ Frame.Whole q → (r : Result)
-      → Runs (step deskRules d q .desk) (drop (suc (bodyLength (b # 0))) b) (room - length (answered d q)) r
-      → Runs d b room (behind (suc (bodyLength (b # 0))) (answered d q) r)
+      → Runs rule (step (deskRules rule) d q .desk) (drop (suc (bodyLength (b # 0))) b) (room - length (answered rule d q)) r
+      → Runs rule d b room (behind (suc (bodyLength (b # 0))) (answered rule d q) r)
 
-runs-over : {b : List ℕ} {s : Series} → Cuts b s → (d : State) (room : ℕ) → Runs d b room (runOver d s room)
-runs-over {b} (nothing e) d room = subst (Runs d b room) (sym (over-none d room)) (no-bytes e)
-runs-over {b} {s} (framing.unknown l f) d room =
+runs-over : {rule : Rule} {b : List ℕ} {s : Series} → Cuts b s → (d : State) (room : ℕ) → Runs rule d b room (runOver rule d s room)
+runs-over {rule} {b} (nothing e) d room = subst (Runs rule d b room) (sym (over-none rule d room)) (no-bytes e)
+runs-over {rule} {b} {s} (framing.unknown l f) d room =
     elim (decLe 5 room) [
-      | yes h ↦ subst (Runs d b room) (sym (over-unknown d room (b # 0) h)) (unknown l h f)
-      | no far ↦ subst (Runs d b room) (sym (over-no-room d room (framing.unknown l f) l (omega (arith, far)))) (no-room l (omega (arith, far)))
+      | yes h ↦ subst (Runs rule d b room) (sym (over-unknown rule d room (b # 0) h)) (unknown l h f)
+      | no far ↦ subst (Runs rule d b room) (sym (over-no-room rule d room (framing.unknown l f) l (omega (arith, far)))) (no-room l (omega (arith, far)))
     ]
-runs-over {b} {s} (framing.cut l f) d room =
+runs-over {rule} {b} {s} (framing.cut l f) d room =
     elim (decLe 5 room) [
-      | yes h ↦ subst (Runs d b room) (sym (over-cut d room (b # 0) h)) (cut l h f)
-      | no far ↦ subst (Runs d b room) (sym (over-no-room d room (framing.cut l f) l (omega (arith, far)))) (no-room l (omega (arith, far)))
+      | yes h ↦ subst (Runs rule d b room) (sym (over-cut rule d room (b # 0) h)) (cut l h f)
+      | no far ↦ subst (Runs rule d b room) (sym (over-no-room rule d room (framing.cut l f) l (omega (arith, far)))) (no-room l (omega (arith, far)))
     ]
-runs-over {b} {s} (whole l q f t later) d room =
-    let e : State = step deskRules d q .desk in
-    let left : ℕ = room - length (answered d q) in
-    let on : Runs e (drop (suc (bodyLength (b # 0))) b) left (runOver e t left) = runs-over later e left in
+runs-over {rule} {b} {s} (whole l q f t later) d room =
+    let e : State = step (deskRules rule) d q .desk in
+    let left : ℕ = room - length (answered rule d q) in
+    let on : Runs rule e (drop (suc (bodyLength (b # 0))) b) left (runOver rule e t left) = runs-over later e left in
     elim (decLe 5 room) [
-      | yes h ↦ subst (Runs d b room) (sym (over-request d room q t h ∙ ap (λ (n : ℕ). behind n (answered d q) (runOver e t left)) (whole-is b q f .size)))
-          (request l h q f (runOver e t left) on)
-      | no far ↦ subst (Runs d b room) (sym (over-no-room d room (whole l q f t later) l (omega (arith, far)))) (no-room l (omega (arith, far)))
+      | yes h ↦ subst (Runs rule d b room) (sym (over-request rule d room q t h ∙ ap (λ (n : ℕ). behind n (answered rule d q) (runOver rule e t left)) (whole-is b q f .size)))
+          (request l h q f (runOver rule e t left) on)
+      | no far ↦ subst (Runs rule d b room) (sym (over-no-room rule d room (whole l q f t later) l (omega (arith, far)))) (no-room l (omega (arith, far)))
     ]
 
-pub runs : (d : State) (b : List ℕ) (room : ℕ) → Runs d b room (runBatch d b room)
+pub runs : (rule : Rule) (d : State) (b : List ℕ) (room : ℕ) → Runs rule d b room (runBatch rule d b room)
 unfolding runBatch
-runs d b room = runs-over (cuts b) d room
+runs rule d b room = runs-over (cuts b) d room

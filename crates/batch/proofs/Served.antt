@@ -17,67 +17,68 @@ use Rattle.batch.specs.Batch.{State, stopNumber, bytesOf, roomFor, taken
 use Rattle.batch.specs.declared.Stop.{Stop}
 use Rattle.batch.specs.declared.Ran.{Ran}
 use Rattle.batch.proofs.Bounds.{written-is}
+use Rattle.records.specs.declared.Rule.{Rule}
 
 -- ---- of the batch of specs/
-module _ (d : State) (b : List ℕ) (room : ℕ) where
-  pub batch-runs : runBatch d b room .desk ≡ run deskRules d (taken d b room)
+module _ (rule : Rule) (d : State) (b : List ℕ) (room : ℕ) where
+  pub batch-runs : runBatch rule d b room .desk ≡ run (deskRules rule) d (taken rule d b room)
   unfolding runBatch
   batch-runs = refl
 
-  pub batch-used : runBatch d b room .used ≡ length (writtenOut (taken d b room))
+  pub batch-used : runBatch rule d b room .used ≡ length (writtenOut (taken rule d b room))
   unfolding runBatch
   batch-used = refl
 
-  pub batch-writes : runBatch d b room .bytes ≡ bytesOf (answers deskRules d (taken d b room)) ++ closing (runBatch d b room .stop)
+  pub batch-writes : runBatch rule d b room .bytes ≡ bytesOf (answers (deskRules rule) d (taken rule d b room)) ++ closing (runBatch rule d b room .stop)
   unfolding runBatch
   batch-writes = refl
 
 -- ---- of what a call returns
-module _ {d : State} {R A : List ℕ} {place : ℕ} {d' : State} {r : Ran} {A′ : List ℕ} (b : Batched d R A place d' r A′) where
+module _ {rule : Rule} {d : State} {R A : List ℕ} {place : ℕ} {d' : State} {r : Ran} {A′ : List ℕ} (b : Batched rule d R A place d' r A′) where
   abbrev room : ℕ
   room = length A - place
 
   -- the desk is that of a run of the requests taken
-  pub desk-runs : d' ≡ run deskRules d (taken d R room)
-  desk-runs = b .desk ∙ batch-runs d R room
+  pub desk-runs : d' ≡ run (deskRules rule) d (taken rule d R room)
+  desk-runs = b .desk ∙ batch-runs rule d R room
 
   -- the bytes used are those requests written out
-  pub used-are-taken : Bytes R → take (r .used) R ≡ writtenOut (taken d R room)
+  pub used-are-taken : Bytes R → take (r .used) R ≡ writtenOut (taken rule d R room)
   used-are-taken small =
-      let W : List ℕ = writtenOut (taken d R room) in
-      let n : r .used ≡ length W = b .used ∙ batch-used d R room in
-      let split : R ≡ W ++ drop (length W) R = requests-as-written R small (roomFor room (answers deskRules d (seriesOf R .requests))) in
+      let W : List ℕ = writtenOut (taken rule d R room) in
+      let n : r .used ≡ length W = b .used ∙ batch-used rule d R room in
+      let split : R ≡ W ++ drop (length W) R = requests-as-written R small (roomFor room (answers (deskRules rule) d (seriesOf R .requests))) in
       ap (take (r .used)) split ∙ take-at W (drop (length W) R) (r .used) (sym n)
 
   -- the bytes written are their answers', and the stop's own byte
-  pub written-are-answers : take (r .written) (drop place A′) ≡ bytesOf (answers deskRules d (taken d R room)) ++ closing (r .stop)
+  pub written-are-answers : take (r .written) (drop place A′) ≡ bytesOf (answers (deskRules rule) d (taken rule d R room)) ++ closing (r .stop)
   written-are-answers =
-      written-is b ∙ batch-writes d R room ∙ ap (λ (s : Stop). bytesOf (answers deskRules d (taken d R room)) ++ closing s) (sym (b .stop))
+      written-is b ∙ batch-writes rule d R room ∙ ap (λ (s : Stop). bytesOf (answers (deskRules rule) d (taken rule d R room)) ++ closing s) (sym (b .stop))
 
 -- ---- a refused request touches one byte
 pub refused-one : (n : ℕ) → answerBytes (Answer.Refused n) ≡ answerByte (Answer.Refused n) ∷ []
 refused-one n = refl
 
-answers-apart : (d : State) (qs : List Request) (q : Request) (more : List Request)
-    → bytesOf (answers deskRules d (qs ++ (q ∷ more)))
-    ≡ bytesOf (answers deskRules d qs) ++ (answerBytes (step deskRules (run deskRules d qs) q .answer) ++ bytesOf (answers deskRules (step deskRules (run deskRules d qs) q .desk) more))
-answers-apart d [] q more = refl
-answers-apart d (p ∷ qs) q more =
-    ap (λ (l : List ℕ). answerBytes (step deskRules d p .answer) ++ l) (answers-apart (step deskRules d p .desk) qs q more)
-    ∙ sym (append-assoc (answerBytes (step deskRules d p .answer)) (bytesOf (answers deskRules (step deskRules d p .desk) qs)) _)
+answers-apart : (rule : Rule) (d : State) (qs : List Request) (q : Request) (more : List Request)
+    → bytesOf (answers (deskRules rule) d (qs ++ (q ∷ more)))
+    ≡ bytesOf (answers (deskRules rule) d qs) ++ (answerBytes (step (deskRules rule) (run (deskRules rule) d qs) q .answer) ++ bytesOf (answers (deskRules rule) (step (deskRules rule) (run (deskRules rule) d qs) q .desk) more))
+answers-apart rule d [] q more = refl
+answers-apart rule d (p ∷ qs) q more =
+    ap (λ (l : List ℕ). answerBytes (step (deskRules rule) d p .answer) ++ l) (answers-apart rule (step (deskRules rule) d p .desk) qs q more)
+    ∙ sym (append-assoc (answerBytes (step (deskRules rule) d p .answer)) (bytesOf (answers (deskRules rule) (step (deskRules rule) d p .desk) qs)) _)
 
 -- where the requests taken are qs, then one that is refused, then more: behind the bytes of the answers to qs stands its one byte, and then the next answers'
-pub refused-one-byte : {d : State} {R A : List ℕ} {place : ℕ} {d' : State} {r : Ran} {A′ : List ℕ} → Batched d R A place d' r A′
-    → (qs : List Request) (q : Request) (more : List Request) → taken d R (length A - place) ≡ qs ++ (q ∷ more)
-    → (n : ℕ) → step deskRules (run deskRules d qs) q .answer ≡ Answer.Refused n
+pub refused-one-byte : {rule : Rule} {d : State} {R A : List ℕ} {place : ℕ} {d' : State} {r : Ran} {A′ : List ℕ} → Batched rule d R A place d' r A′
+    → (qs : List Request) (q : Request) (more : List Request) → taken rule d R (length A - place) ≡ qs ++ (q ∷ more)
+    → (n : ℕ) → step (deskRules rule) (run (deskRules rule) d qs) q .answer ≡ Answer.Refused n
     → take (r .written) (drop place A′)
-    ≡ bytesOf (answers deskRules d qs) ++ (answerByte (Answer.Refused n) ∷ bytesOf (answers deskRules (step deskRules (run deskRules d qs) q .desk) more)) ++ closing (r .stop)
-refused-one-byte {d} {r = r} b qs q more is n refused =
-    let e : State = step deskRules (run deskRules d qs) q .desk in
+    ≡ bytesOf (answers (deskRules rule) d qs) ++ (answerByte (Answer.Refused n) ∷ bytesOf (answers (deskRules rule) (step (deskRules rule) (run (deskRules rule) d qs) q .desk) more)) ++ closing (r .stop)
+refused-one-byte {rule} {d} {r = r} b qs q more is n refused =
+    let e : State = step (deskRules rule) (run (deskRules rule) d qs) q .desk in
     written-are-answers b
-    ∙ ap (λ (l : List Request). bytesOf (answers deskRules d l) ++ closing (r .stop)) is
-    ∙ ap (λ (l : List ℕ). l ++ closing (r .stop)) (answers-apart d qs q more)
-    ∙ ap (λ (a : Answer). bytesOf (answers deskRules d qs) ++ (answerBytes a ++ bytesOf (answers deskRules e more)) ++ closing (r .stop)) refused
+    ∙ ap (λ (l : List Request). bytesOf (answers (deskRules rule) d l) ++ closing (r .stop)) is
+    ∙ ap (λ (l : List ℕ). l ++ closing (r .stop)) (answers-apart rule d qs q more)
+    ∙ ap (λ (a : Answer). bytesOf (answers (deskRules rule) d qs) ++ (answerBytes a ++ bytesOf (answers (deskRules rule) e more)) ++ closing (r .stop)) refused
 
 -- ---- the numbers of the stops
 pub distinct-numbers : (s t : Stop) → stopNumber s ≡ stopNumber t → s ≡ t

@@ -20,6 +20,7 @@ use Rattle.batch.specs.Pieces.{behind}
 use Rattle.batch.specs.declared.Ran.{Ran}
 use Rattle.batch.specs.declared.Stop.{Stop}
 use Rattle.batch.proofs.Steps.{at-most-five, stopped, behind-none, behind-behind, with-no-bytes, with-no-room, with-unknown, with-cut, with-request}
+use Rattle.records.specs.declared.Rule.{Rule}
 
 -- the buffer A once its part from `at` on has come back as ys
 abbrev pub back : List ℕ → ℕ → List ℕ → List ℕ
@@ -33,29 +34,29 @@ lent A ys bs at k is-k is-ys =
     simp (is-ys, take-all k (drop at A) l, drop-of-length-le (drop at A) l, drop-drop, append-nil)
 
 -- where the loop turns: the requests R, the buffer A₀ and the desk d₀ at the start, the buffer A and the desk d now
-pub record Underway (R A₀ : List ℕ) (place : ℕ) (d₀ : State) (A : List ℕ) (d : State) (used at : ℕ) : Type 0 where
+pub record Underway (rule : Rule) (R A₀ : List ℕ) (place : ℕ) (d₀ : State) (A : List ℕ) (d : State) (used at : ℕ) : Type 0 where
   pub bytes : List ℕ
   pub in-requests : used ≤ length R
   pub same-length : length A ≡ length A₀
   pub place-now : at ≡ place + length bytes
   pub buffer : A ≡ take place A₀ ++ bytes ++ drop at A₀
-  pub so-far : runBatch d₀ R (length A₀ - place) ≡ behind used bytes (runBatch d (drop used R) (length A₀ - at))
+  pub so-far : runBatch rule d₀ R (length A₀ - place) ≡ behind used bytes (runBatch rule d (drop used R) (length A₀ - at))
 
 -- where the loop was left by the stop s
-abbrev pub Over : (R A₀ : List ℕ) (place : ℕ) (d₀ d : State) (used : ℕ) (A : List ℕ) (at : ℕ) (s : Stop) → Type 0
-Over R A₀ place d₀ d used A at s =
-    Batched d₀ R A₀ place d (record { stop = s; used = used; written = at - place }) A × ((length A ≡ length A₀) × (place ≤ at))
+abbrev pub Over : Rule → (R A₀ : List ℕ) (place : ℕ) (d₀ d : State) (used : ℕ) (A : List ℕ) (at : ℕ) (s : Stop) → Type 0
+Over rule R A₀ place d₀ d used A at s =
+    Batched rule d₀ R A₀ place d (record { stop = s; used = used; written = at - place }) A × ((length A ≡ length A₀) × (place ≤ at))
 
-pub as-left : {R A₀ : List ℕ} {place : ℕ} {d₀ d : State} {used : ℕ} {A A′ : List ℕ} {at at′ : ℕ} {s s′ : Stop} → A′ ≡ A → at′ ≡ at → s′ ≡ s
-    → Over R A₀ place d₀ d used A at s → Over R A₀ place d₀ d used A′ at′ s′
-as-left {R} {A₀} {place} {d₀} {d} {used} p q r x =
-    subst (λ (t : List ℕ × ℕ × Stop). Over R A₀ place d₀ d used (t .0) (t .1) (t .2)) (λ i. (sym p i, sym q i, sym r i)) x
+pub as-left : {rule : Rule} {R A₀ : List ℕ} {place : ℕ} {d₀ d : State} {used : ℕ} {A A′ : List ℕ} {at at′ : ℕ} {s s′ : Stop} → A′ ≡ A → at′ ≡ at → s′ ≡ s
+    → Over rule R A₀ place d₀ d used A at s → Over rule R A₀ place d₀ d used A′ at′ s′
+as-left {rule} {R} {A₀} {place} {d₀} {d} {used} p q r x =
+    subst (λ (t : List ℕ × ℕ × Stop). Over rule R A₀ place d₀ d used (t .0) (t .1) (t .2)) (λ i. (sym p i, sym q i, sym r i)) x
 
-pub as-returned : {d d' : State} {R A A′ : List ℕ} {place : ℕ} {r r′ : Ran} → r′ ≡ r → Batched d R A place d' r A′ → Batched d R A place d' r′ A′
-as-returned {d} {d'} {R} {A} {A′} {place} e b = subst (λ (r : Ran). Batched d R A place d' r A′) (sym e) b
+pub as-returned : {rule : Rule} {d d' : State} {R A A′ : List ℕ} {place : ℕ} {r r′ : Ran} → r′ ≡ r → Batched rule d R A place d' r A′ → Batched rule d R A place d' r′ A′
+as-returned {rule} {d} {d'} {R} {A} {A′} {place} e b = subst (λ (r : Ran). Batched rule d R A place d' r A′) (sym e) b
 
-pub at-start : (R A₀ : List ℕ) (place : ℕ) (d₀ : State) → Underway R A₀ place d₀ A₀ d₀ 0 place
-at-start R A₀ place d₀ =
+pub at-start : (rule : Rule) (R A₀ : List ℕ) (place : ℕ) (d₀ : State) → Underway rule R A₀ place d₀ A₀ d₀ 0 place
+at-start rule R A₀ place d₀ =
     record {
       bytes = [];
       in-requests = omega arith;
@@ -65,7 +66,7 @@ at-start R A₀ place d₀ =
       so-far = behind-none _;
     }
 
-module _ {R A₀ : List ℕ} {place : ℕ} {d₀ : State} {A : List ℕ} {d : State} {used at : ℕ} (h : Underway R A₀ place d₀ A d used at) where
+module _ {rule : Rule} {R A₀ : List ℕ} {place : ℕ} {d₀ : State} {A : List ℕ} {d : State} {used at : ℕ} (h : Underway rule R A₀ place d₀ A d used at) where
   -- bs at the present place of the buffer
   wrote : (bs : List ℕ) → at ≤ length A → take at A ++ (bs ++ drop (at + length bs) A) ≡ take place A₀ ++ (h .bytes ++ bs) ++ drop (at + length bs) A₀
   wrote bs in-A =
@@ -79,12 +80,12 @@ module _ {R A₀ : List ℕ} {place : ℕ} {d₀ : State} {A : List ℕ} {d : St
       simp (before, rest, append-assoc)
 
   -- the batch ends here, and bs is the last that it wrote
-  finish : (s : Stop) (bs : List ℕ) (A′ : List ℕ) → runBatch d (drop used R) (length A₀ - at) ≡ stopped d s bs
+  finish : (s : Stop) (bs : List ℕ) (A′ : List ℕ) → runBatch rule d (drop used R) (length A₀ - at) ≡ stopped d s bs
       → A′ ≡ take place A₀ ++ (h .bytes ++ bs) ++ drop (at + length bs) A₀
-      → Batched d₀ R A₀ place d (record { stop = s; used = used; written = at + length bs - place }) A′
+      → Batched rule d₀ R A₀ place d (record { stop = s; used = used; written = at + length bs - place }) A′
   finish s bs A′ e b =
-      let q : runBatch d₀ R (length A₀ - place) ≡ behind used (h .bytes) (stopped d s bs) = h .so-far ∙ ap (behind used (h .bytes)) e in
-      let n : length (runBatch d₀ R (length A₀ - place) .bytes) ≡ length (h .bytes) + length bs =
+      let q : runBatch rule d₀ R (length A₀ - place) ≡ behind used (h .bytes) (stopped d s bs) = h .so-far ∙ ap (behind used (h .bytes)) e in
+      let n : length (runBatch rule d₀ R (length A₀ - place) .bytes) ≡ length (h .bytes) + length bs =
       ap (λ (r : Result). length (r .bytes)) q ∙ length-append (h .bytes) bs in
       let w : place + (at + length bs - place) ≡ at + length bs = omega (arith, h .place-now) in
       record {
@@ -96,21 +97,21 @@ module _ {R A₀ : List ℕ} {place : ℕ} {d₀ : State} {A : List ℕ} {d : St
       }
 
   -- the batch ends and writes nothing more
-  stay : (s : Stop) → runBatch d (drop used R) (length A₀ - at) ≡ stopped d s [] → Over R A₀ place d₀ d used A at s
+  stay : (s : Stop) → runBatch rule d (drop used R) (length A₀ - at) ≡ stopped d s [] → Over rule R A₀ place d₀ d used A at s
   stay s e =
       let r = finish s [] A e (h .buffer ∙ simp (append-nil, add-zero)) in (
-        subst (λ (k : ℕ). Batched d₀ R A₀ place d (record { stop = s; used = used; written = k - place }) A) (add-zero at) r,
+        subst (λ (k : ℕ). Batched rule d₀ R A₀ place d (record { stop = s; used = used; written = k - place }) A) (add-zero at) r,
         (h .same-length, omega (arith, h .place-now)),
       )
 
-  pub at-end : length R ≤ used → Over R A₀ place d₀ d used A at Stop.End
-  at-end e = stay Stop.End (ap (λ (l : List ℕ). runBatch d l (length A₀ - at)) (drop-of-length-le R e) ∙ with-no-bytes d (length A₀ - at))
+  pub at-end : length R ≤ used → Over rule R A₀ place d₀ d used A at Stop.End
+  at-end e = stay Stop.End (ap (λ (l : List ℕ). runBatch rule d l (length A₀ - at)) (drop-of-length-le R e) ∙ with-no-bytes rule d (length A₀ - at))
 
   some-left : used < length R → 0 < length (drop used R)
   some-left l = simp length-drop (omega arith)
 
-  pub no-room : used < length R → (room : ℕ) → room ≡ length A - at → room < 5 → Over R A₀ place d₀ d used A at Stop.NoRoom
-  no-room in-R room is-room l = stay Stop.NoRoom (with-no-room d (length A₀ - at) (drop used R) (some-left in-R) (omega (arith, h .same-length)))
+  pub no-room : used < length R → (room : ℕ) → room ≡ length A - at → room < 5 → Over rule R A₀ place d₀ d used A at Stop.NoRoom
+  no-room in-R room is-room l = stay Stop.NoRoom (with-no-room rule d (length A₀ - at) (drop used R) (some-left in-R) (omega (arith, h .same-length)))
 
   -- the part of the buffer from the present place on came back with bs in front
   module _ (bs ys : List ℕ) (fits : at + length bs ≤ length A) (is-ys : ys ≡ bs ++ drop (length bs) (take (length A - at) (drop at A))) where
@@ -131,27 +132,27 @@ module _ {R A₀ : List ℕ} {place : ℕ} {d₀ : State} {A : List ℕ} {d : St
     ahead = sym (is-f ∙ ap frameOf (take-all (length R - used) (drop used R) (simp length-drop (omega arith))))
 
     -- the answer a of r bytes is written, and the batch ends by the stop s
-    ends : (s : Stop) (a : Answer) → runBatch d (drop used R) (length A₀ - at) ≡ stopped d s (answerBytes a)
+    ends : (s : Stop) (a : Answer) → runBatch rule d (drop used R) (length A₀ - at) ≡ stopped d s (answerBytes a)
         → (r : ℕ) → r ≡ length (answerBytes a) → (ys : List ℕ) → ys ≡ answerBytes a ++ drop (length (answerBytes a)) (take (length A - at) (drop at A))
-        → Over R A₀ place d₀ d used (back A at ys) (at + r) s
+        → Over rule R A₀ place d₀ d used (back A at ys) (at + r) s
     ends s a e r is-r ys is-ys =
         let bs : List ℕ = answerBytes a in
         let small : length bs ≤ 5 = at-most-five a in
         let fits : at + length bs ≤ length A = omega arith in
         let b = finish s bs (back A at ys) e (came-back bs ys fits is-ys) in (
-          subst (λ (k : ℕ). Batched d₀ R A₀ place d (record { stop = s; used = used; written = at + k - place }) (back A at ys)) (sym is-r) b,
+          subst (λ (k : ℕ). Batched rule d₀ R A₀ place d (record { stop = s; used = used; written = at + k - place }) (back A at ys)) (sym is-r) b,
           (as-long bs ys fits is-ys, omega (arith, h .place-now)),
         )
 
     pub unknown : f ≡ Frame.Unknown → (r : ℕ) → r ≡ length (answerBytes (Answer.Refused 1))
         → (ys : List ℕ) → ys ≡ answerBytes (Answer.Refused 1) ++ drop (length (answerBytes (Answer.Refused 1))) (take (length A - at) (drop at A))
-        → Over R A₀ place d₀ d used (back A at ys) (at + r) Stop.Unknown
-    unknown u = ends Stop.Unknown (Answer.Refused 1) (with-unknown d (length A₀ - at) (drop used R) room₀ (ahead ∙ u))
+        → Over rule R A₀ place d₀ d used (back A at ys) (at + r) Stop.Unknown
+    unknown u = ends Stop.Unknown (Answer.Refused 1) (with-unknown rule d (length A₀ - at) (drop used R) room₀ (ahead ∙ u))
 
     pub cut : f ≡ Frame.Cut → (r : ℕ) → r ≡ length (answerBytes (Answer.Refused 2))
         → (ys : List ℕ) → ys ≡ answerBytes (Answer.Refused 2) ++ drop (length (answerBytes (Answer.Refused 2))) (take (length A - at) (drop at A))
-        → Over R A₀ place d₀ d used (back A at ys) (at + r) Stop.Cut
-    cut u = ends Stop.Cut (Answer.Refused 2) (with-cut d (length A₀ - at) (drop used R) (some-left in-R) room₀ (ahead ∙ u))
+        → Over rule R A₀ place d₀ d used (back A at ys) (at + r) Stop.Cut
+    cut u = ends Stop.Cut (Answer.Refused 2) (with-cut rule d (length A₀ - at) (drop used R) (some-left in-R) room₀ (ahead ∙ u))
 
     module _ (q : Request) (is-q : f ≡ Frame.Whole q) (n : ℕ) (is-n : n ≡ bodyLength (R # used)) where
       kind-ahead : bodyLength (drop used R # 0) ≡ n
@@ -165,15 +166,15 @@ module _ {R A₀ : List ℕ} {place : ℕ} {d₀ : State} {A : List ℕ} {d : St
           omega (arith, kind-ahead, w)
 
       -- the desk answers a and is d' then; r bytes are written
-      pub next : (d' : State) (a : Answer) → outcome d' a ≡ step deskRules d q → (r : ℕ) → r ≡ length (answerBytes a)
+      pub next : (d' : State) (a : Answer) → outcome d' a ≡ step (deskRules rule) d q → (r : ℕ) → r ≡ length (answerBytes a)
           → (ys : List ℕ) → ys ≡ answerBytes a ++ drop (length (answerBytes a)) (take (length A - at) (drop at A))
-          → Underway R A₀ place d₀ (back A at ys) d' (used + (1 + n)) (at + r)
+          → Underway rule R A₀ place d₀ (back A at ys) d' (used + (1 + n)) (at + r)
       next d' a is r is-r ys is-ys =
           let bs : List ℕ = answerBytes a in
           let small : length bs ≤ 5 = at-most-five a in
           let fits : at + length bs ≤ length A = omega arith in
-          let step : runBatch d (drop used R) (length A₀ - at) ≡ behind (suc n) bs (runBatch d' (drop (suc n) (drop used R)) (length A₀ - at - length bs)) =
-          with-request d (length A₀ - at) (drop used R) room₀ q (ahead ∙ is-q) (outcome d' a) (sym is) n kind-ahead in
+          let step : runBatch rule d (drop used R) (length A₀ - at) ≡ behind (suc n) bs (runBatch rule d' (drop (suc n) (drop used R)) (length A₀ - at - length bs)) =
+          with-request rule d (length A₀ - at) (drop used R) room₀ q (ahead ∙ is-q) (outcome d' a) (sym is) n kind-ahead in
           let e₁ : used + suc n ≡ used + (1 + n) = omega arith in
           let e₂ : length A₀ - at - length bs ≡ length A₀ - (at + r) = omega (arith, is-r) in
           let e₃ : drop (suc n) (drop used R) ≡ drop (used + (1 + n)) R = drop-drop (suc n) used R ∙ ap (λ (k : ℕ). drop k R) e₁ in
@@ -185,5 +186,5 @@ module _ {R A₀ : List ℕ} {place : ℕ} {d₀ : State} {A : List ℕ} {d : St
             buffer = came-back bs ys fits is-ys ∙ ap (λ (k : ℕ). take place A₀ ++ (h .bytes ++ bs) ++ drop (at + k) A₀) (sym is-r);
             so-far =
                 h .so-far ∙ ap (behind used (h .bytes)) step ∙ behind-behind used (suc n) (h .bytes) bs _
-                ∙ (λ i. behind (e₁ i) (h .bytes ++ bs) (runBatch d' (e₃ i) (e₂ i)));
+                ∙ (λ i. behind (e₁ i) (h .bytes ++ bs) (runBatch rule d' (e₃ i) (e₂ i)));
           }

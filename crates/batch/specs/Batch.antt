@@ -8,6 +8,7 @@ use lib.ListN.{length, take, drop}
 use Rattle.request.specs.Framing.{End, no-bytes, unknown-kind, cut-body, Series, seriesOf, writtenOut}
 use Rattle.request.specs.declared.Request.{Request}
 use Rattle.records.specs.House.{House}
+use Rattle.records.specs.declared.Rule.{Rule}
 use Rattle.effects.specs.declared.Change.{Change}
 use Rattle.history.specs.Machine.{Desk, run, answers}
 use Rattle.history.specs.Desk.{deskRules, answerBytes}
@@ -41,11 +42,11 @@ roomFor room [] = 0
 roomFor room (a ∷ more) = cond (ltb room 5) 0 (suc (roomFor (room - length (answerBytes a)) more))
 
 -- the requests that are taken, with so much answer room, and those that are left
-abbrev pub takenOf : State → List Request → ℕ → List Request
-takenOf d qs room = take (roomFor room (answers deskRules d qs)) qs
+abbrev pub takenOf : Rule → State → List Request → ℕ → List Request
+takenOf rule d qs room = take (roomFor room (answers (deskRules rule) d qs)) qs
 
-abbrev pub leftOf : State → List Request → ℕ → List Request
-leftOf d qs room = drop (roomFor room (answers deskRules d qs)) qs
+abbrev pub leftOf : Rule → State → List Request → ℕ → List Request
+leftOf rule d qs room = drop (roomFor room (answers (deskRules rule) d qs)) qs
 
 -- "in this order: no bytes left (stop 0); under 5 answer bytes left, or the place beyond the buffer (stop 13); unknown kind or cut body":
 -- the stop, where these requests are left, and behind them this end, and so much answer room
@@ -69,26 +70,26 @@ pub record Result : Type 0 where
   pub used : ℕ
   pub bytes : List ℕ
 
--- a batch is the run of the requests that it takes: their bytes count as used, their answers are written, and the stop's own byte
-abbrev pub runOver : State → Series → ℕ → Result
-runOver d s room =
-    let qs : List Request = takenOf d (s .requests) room in
-    let bytes : List ℕ = bytesOf (answers deskRules d qs) in
-    let stop : Stop = stopAt (leftOf d (s .requests) room) (s .end) (room - length bytes) in
-    record { desk = run deskRules d qs; stop = stop; used = length (writtenOut qs); bytes = bytes ++ closing stop }
+-- a batch is the run under the rule of the requests that it takes: their bytes count as used, their answers are written, and the stop's own byte
+abbrev pub runOver : Rule → State → Series → ℕ → Result
+runOver rule d s room =
+    let qs : List Request = takenOf rule d (s .requests) room in
+    let bytes : List ℕ = bytesOf (answers (deskRules rule) d qs) in
+    let stop : Stop = stopAt (leftOf rule d (s .requests) room) (s .end) (room - length bytes) in
+    record { desk = run (deskRules rule) d qs; stop = stop; used = length (writtenOut qs); bytes = bytes ++ closing stop }
 
 -- of the requests that the bytes are cut into
-abbrev pub taken : State → List ℕ → ℕ → List Request
-taken d requests room = takenOf d (seriesOf requests .requests) room
+abbrev pub taken : Rule → State → List ℕ → ℕ → List Request
+taken rule d requests room = takenOf rule d (seriesOf requests .requests) room
 
-unfoldable pub runBatch : State → List ℕ → ℕ → Result
-runBatch d requests room = runOver d (seriesOf requests) room
+unfoldable pub runBatch : Rule → State → List ℕ → ℕ → Result
+runBatch rule d requests room = runOver rule d (seriesOf requests) room
 
 -- what was returned is the batch's, its bytes stand from the place on, and "all other answer bytes stay";
 -- d and answers are the desk and the buffer before, d' and answers' after; room is what the buffer has from the place on
-pub record Batched (d : State) (requests answers : List ℕ) (place : ℕ) (d' : State) (r : Ran) (answers' : List ℕ) : Type 0 where
-  pub desk : d' ≡ runBatch d requests (length answers - place) .desk
-  pub stop : r .stop ≡ runBatch d requests (length answers - place) .stop
-  pub used : r .used ≡ runBatch d requests (length answers - place) .used
-  pub written : r .written ≡ length (runBatch d requests (length answers - place) .bytes)
-  pub buffer : answers' ≡ take place answers ++ runBatch d requests (length answers - place) .bytes ++ drop (place + r .written) answers
+pub record Batched (rule : Rule) (d : State) (requests answers : List ℕ) (place : ℕ) (d' : State) (r : Ran) (answers' : List ℕ) : Type 0 where
+  pub desk : d' ≡ runBatch rule d requests (length answers - place) .desk
+  pub stop : r .stop ≡ runBatch rule d requests (length answers - place) .stop
+  pub used : r .used ≡ runBatch rule d requests (length answers - place) .used
+  pub written : r .written ≡ length (runBatch rule d requests (length answers - place) .bytes)
+  pub buffer : answers' ≡ take place answers ++ runBatch rule d requests (length answers - place) .bytes ++ drop (place + r .written) answers

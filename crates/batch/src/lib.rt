@@ -9,6 +9,7 @@ use history::Answer;
 use history::Desk;
 use log::Log;
 use records::Cells;
+use records::Rule;
 use request::Frame;
 
 // Why a batch ended: no bytes left, no answer room, an unknown kind, a cut body.
@@ -88,11 +89,12 @@ pub fn run(
     log: &mut Log,
     current: &mut Cells,
     last: &mut u32,
+    rule: Rule,
     requests: &[u8],
     answers: &mut [u8],
     place: usize,
 ) -> Ran
-    ensures { λ r. ⌜ Batched (shown (now (base .entry)) (now (log .entry)) (now (current .entry)) (now (last .entry))) (now (requests .entry)) (now (answers .entry)) place (shown (now (base .exit)) (now (log .exit)) (now (current .exit)) (now (last .exit))) r (now (answers .exit)) ⌝ }
+    ensures { λ r. ⌜ Batched rule (shown (now (base .entry)) (now (log .entry)) (now (current .entry)) (now (last .entry))) (now (requests .entry)) (now (answers .entry)) place (shown (now (base .exit)) (now (log .exit)) (now (current .exit)) (now (last .exit))) r (now (answers .exit)) ⌝ }
 {
     let mut used: usize = 0;
     let mut at = place;
@@ -114,7 +116,7 @@ pub fn run(
                 break Stop::Cut;
             }
             Frame::Whole(request) => {
-                let answer = history::take(base, log, current, last, request);
+                let answer = history::take(base, log, current, last, rule, request);
                 at += put_answer(&mut answers[at..], answer);
                 used += 1 + request::body_length(requests[used] as u32) as usize;
             }
@@ -123,19 +125,21 @@ pub fn run(
     Ran::new(stop, used, at - place)
 }
 
-// The same for a desk by value: it is taken apart once, and put together once.
+// The same for a desk by value: it is taken apart once, and put together once. Its rule stays.
 pub fn run_desk(desk: Desk, requests: &[u8], answers: &mut [u8], place: usize) -> RanDesk
-    ensures { λ r. ⌜ Batched (shown (desk .base) (desk .log) (desk .current) (desk .last)) (now (requests .entry)) (now (answers .entry)) place (shown (r .desk .base) (r .desk .log) (r .desk .current) (r .desk .last)) (r .ran) (now (answers .exit)) ⌝ }
+    ensures { λ r. ⌜ Batched (desk .rule) (shown (desk .base) (desk .log) (desk .current) (desk .last)) (now (requests .entry)) (now (answers .entry)) place (shown (r .desk .base) (r .desk .log) (r .desk .current) (r .desk .last)) (r .ran) (now (answers .exit)) × (r .desk .rule ≡ desk .rule) ⌝ }
 {
     let mut base = desk.base;
     let mut log = desk.log;
     let mut current = desk.current;
     let mut last = desk.last;
+    let rule = desk.rule;
     let ran = run(
         &mut base,
         &mut log,
         &mut current,
         &mut last,
+        rule,
         requests,
         answers,
         place,
@@ -146,6 +150,7 @@ pub fn run_desk(desk: Desk, requests: &[u8], answers: &mut [u8], place: usize) -
             log,
             current,
             last,
+            rule,
         },
         ran,
     }

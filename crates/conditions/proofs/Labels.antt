@@ -13,12 +13,14 @@ use Rattle.label.specs.Labels.{contains, dominates, differs}
 use Rattle.label.proofs.Dominance.{level-differs, categories-differ}
 use Rattle.records.specs.Places.{has, with, only}
 use Rattle.records.specs.House.{house}
+use Rattle.records.specs.declared.Rule.{Rule}
+use Rattle.records.specs.declared.Script.{Script}
 use Rattle.records.specs.declared.User.{User}
 use Rattle.records.specs.declared.Session.{Session}
 use Rattle.records.specs.declared.Draft.{Draft}
 use Rattle.records.proofs.Places.{has-and, has-less, has-none, has-with, has-only, contains-has, has-contains, some-place}
-use Rattle.conditions.specs.Conditions.{isStaff, isAt, shares, sees, seen}
-use Rattle.conditions.specs.Labels.{Exactly, Covered, Lacks, Alike, Shared}
+use Rattle.conditions.specs.Conditions.{isStaff, isAt, shares, sees, seen, importing}
+use Rattle.conditions.specs.Labels.{Exactly, Covered, Lacks, Alike, Importable, Shared}
 
 clash : {A : Type 0} {b : Bool} → b ≡ true → b ≡ false → A
 clash p q = absurd (let z : _≡_ {A = ℕ} 0 1 = cc in omega arith)
@@ -85,6 +87,11 @@ module _ (place level c place′ level′ c′ : ℕ) where
         record { level-alike = level-alike .says (z .0); categories-alike = categories-alike .says (z .1) };
     shown = λ f. both (not (differing .level)) (not (differing .categories)) .shown (level-alike .shown (f .level-alike), categories-alike .shown (f .categories-alike));
   }
+
+-- Import, by either rule: neither part fails exactly where the labels are as that rule wants them
+pub importable : (rule : Rule) (k₂ k₁ : Script) → Exactly (not (importing rule k₂ k₁ .level) && not (importing rule k₂ k₁ .categories)) (Importable rule k₂ k₁)
+importable Rule.One k₂ k₁ = alike (k₂ .origin) (k₂ .level) (k₂ .categories) (k₁ .origin) (k₁ .level) (k₁ .categories)
+importable Rule.Two k₂ k₁ = covered (k₂ .origin) (k₂ .level) (k₂ .categories) (k₁ .origin) (k₁ .level) (k₁ .categories)
 
 -- ---- 8
 pub shared : (a b : ℕ) → Exactly (shares a b) (Shared a b)

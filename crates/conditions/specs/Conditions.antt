@@ -16,6 +16,7 @@ use Rattle.records.specs.declared.User.{User}
 use Rattle.records.specs.declared.Script.{Script}
 use Rattle.records.specs.declared.Session.{Session}
 use Rattle.records.specs.declared.Draft.{Draft}
+use Rattle.records.specs.declared.Rule.{Rule}
 
 -- ---- 4: "a user, room, script, session, or draft of that script, that must exist"
 abbrev pub isUser : House → ℕ → Bool
@@ -107,9 +108,11 @@ reading s k = dominates (sessionLabel s) (scriptLabel k)
 abbrev pub updating : Session → Script → Parts
 updating s k = differs (sessionLabel s) (scriptLabel k)
 
--- "Import: the scripts differ": script 2 and script 1
-abbrev pub importing : Script → Script → Parts
-importing k₂ k₁ = differs (scriptLabel k₂) (scriptLabel k₁)
+-- "Import: the scripts differ": script 2 and script 1. 02, L3: rule 1 is document 004's, which "wants equal labels"; rule 2 is document 001's, "where the house
+-- script's categories need only contain the room script's; take its level likewise as at least the room script's"
+abbrev pub importing : Rule → Script → Script → Parts
+importing Rule.One k₂ k₁ = differs (scriptLabel k₂) (scriptLabel k₁)
+importing Rule.Two k₂ k₁ = dominates (scriptLabel k₂) (scriptLabel k₁)
 
 -- ---- 10: "with 256 live drafts"
 abbrev pub draftRoom : House → Bool

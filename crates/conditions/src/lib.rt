@@ -5,6 +5,7 @@ ghost use Rattle.conditions.specs.Conditions.{noUsers, leads, isStaff, i
 use label::Label;
 use label::Parts;
 use records::Cells;
+use records::Rule;
 
 // ---- of the users: i is a user's place
 pub fn no_users(records: &Cells) -> bool
@@ -156,12 +157,16 @@ pub fn updating(records: &Cells, s: usize, k: usize) -> Parts
     one.differs(script_label(records, k))
 }
 
-// Of script 2 and script 1: k2 and k1 are their places.
-pub fn importing(records: &Cells, k2: usize, k1: usize) -> Parts
-    ensures { λ r. ⌜ r ≡ importing (script (view (now (records .entry))) k2) (script (view (now (records .entry))) k1) ⌝ }
+// Of script 2, the house's, and script 1: k2 and k1 are their places. Rule 1 wants one label, rule 2 that the house's covers the other.
+pub fn importing(records: &Cells, rule: Rule, k2: usize, k1: usize) -> Parts
+    ensures { λ r. ⌜ r ≡ importing rule (script (view (now (records .entry))) k2) (script (view (now (records .entry))) k1) ⌝ }
 {
-    let one = script_label(records, k2);
-    one.differs(script_label(records, k1))
+    let to = script_label(records, k2);
+    let from = script_label(records, k1);
+    match rule {
+        Rule::One => to.differs(from),
+        Rule::Two => to.dominates(from),
+    }
 }
 
 fn session_label(records: &Cells, s: usize) -> Label

@@ -9,6 +9,7 @@ use Rattle.request.specs.Reading.{frameOf}
 use Rattle.request.specs.Framing.{byFrame}
 use Rattle.request.specs.declared.Request.{Request}
 use Rattle.records.specs.House.{House}
+use Rattle.records.specs.declared.Rule.{Rule}
 use Rattle.effects.specs.declared.Change.{Change}
 use Rattle.history.specs.Machine.{Desk, step}
 use Rattle.history.specs.Desk.{deskRules}
@@ -26,11 +27,11 @@ abbrev pub done : Desk House Change → ℕ → ℕ → List ℕ → Bool → Do
 done d k used text onward = record { desk = d; ordinal = k; used = used; text = text; onward = onward }
 
 -- the first request of the bytes b, of which there is one at least
-abbrev pub oneOf : Bool → Bool → Desk House Change → ℕ → List ℕ → Done
-oneOf why ended d k b =
+abbrev pub oneOf : Rule → Bool → Bool → Desk House Change → ℕ → List ℕ → Done
+oneOf rule why ended d k b =
     byFrame (frameOf b) (done d (k + 1) 0 (lineOf why k (b # 0) (Refused 1) (bare 1)) false)
     (cond ended (done d (k + 1) 0 (lineOf why k (b # 0) (Refused 2) (bare 2)) false) (done d k 0 [] true))
-    (λ (q : Request). done (step deskRules d q .desk) (k + 1) (suc (bodyLength (b # 0))) (lineOf why k (b # 0) (step deskRules d q .answer) (reasonFor d q)) true)
+    (λ (q : Request). done (step (deskRules rule) d q .desk) (k + 1) (suc (bodyLength (b # 0))) (lineOf why k (b # 0) (step (deskRules rule) d q .answer) (reasonFor rule d q)) true)
 
 -- as the program returns it: the lines stand behind the first `at` bytes of the buffer
 pub record Made (x : Done) (before : List ℕ) (at : ℕ) (d : Desk House Change) (r : Progress) (after : List ℕ) : Type 0 where

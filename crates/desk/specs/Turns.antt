@@ -7,6 +7,7 @@ use lib.Dec.{eqb}
 use lib.ListN.{length, take, drop}
 use Rattle.request.specs.Framing.{End, no-bytes, unknown-kind, cut-body, Series, seriesOf, writtenOut}
 use Rattle.records.specs.House.{House}
+use Rattle.records.specs.declared.Rule.{Rule}
 use Rattle.effects.specs.declared.Change.{Change}
 use Rattle.history.specs.Machine.{Desk, run}
 use Rattle.history.specs.Desk.{deskRules}
@@ -29,19 +30,19 @@ readsOn ended (unknown-kind kind) = false
 readsOn ended (cut-body kind) = not ended
 
 -- the requests of a series and its end; `why` is whether the lines have their reasons
-abbrev pub doneWith : Bool → Bool → Desk House Change → ℕ → Series → Done
-doneWith why ended d k s =
+abbrev pub doneWith : Rule → Bool → Bool → Desk House Change → ℕ → Series → Done
+doneWith rule why ended d k s =
     record {
-      desk = run deskRules d (s .requests);
-      ordinal = k + length (givenTo ended d s);
+      desk = run (deskRules rule) d (s .requests);
+      ordinal = k + length (givenTo rule ended d s);
       used = length (writtenOut (s .requests));
-      text = linesFrom why k (givenTo ended d s);
+      text = linesFrom why k (givenTo rule ended d s);
       onward = readsOn ended (s .end);
     }
 
 -- the bytes b on the desk d, with k the ordinal of the next line; `ended` is whether the input ends with them
-abbrev pub allOf : Bool → Bool → Desk House Change → ℕ → List ℕ → Done
-allOf why ended d k b = doneWith why ended d k (seriesOf b)
+abbrev pub allOf : Rule → Bool → Bool → Desk House Change → ℕ → List ℕ → Done
+allOf rule why ended d k b = doneWith rule why ended d k (seriesOf b)
 
 -- where the program stands between two pieces: the desk, the ordinal of the next line, and the bytes that wait for the rest of their request
 pub record Stand : Type 0 where
@@ -66,27 +67,27 @@ abbrev pub turnedBy : List ℕ → Done → Turned
 turnedBy b r = record { text = r .text; next = stand (r .desk) (r .ordinal) (drop (r .used) b); onward = r .onward }
 
 -- a piece of no bytes is the end of the input
-abbrev pub turn : Bool → Stand → List ℕ → Turned
-turn why s piece = turnedBy (s .waiting ++ piece) (allOf why (eqb (length piece) 0) (s .desk) (s .ordinal) (s .waiting ++ piece))
+abbrev pub turn : Rule → Bool → Stand → List ℕ → Turned
+turn rule why s piece = turnedBy (s .waiting ++ piece) (allOf rule why (eqb (length piece) 0) (s .desk) (s .ordinal) (s .waiting ++ piece))
 
 -- what the program writes where it reads these pieces and then the end, as long as it goes on
-abbrev pub writes : Bool → Stand → List (List ℕ) → List ℕ
-writes why s [] = turn why s [] .text
-writes why s (piece ∷ more) = turn why s piece .text ++ cond (turn why s piece .onward) (writes why (turn why s piece .next) more) []
+abbrev pub writes : Rule → Bool → Stand → List (List ℕ) → List ℕ
+writes rule why s [] = turn rule why s [] .text
+writes rule why s (piece ∷ more) = turn rule why s piece .text ++ cond (turn rule why s piece .onward) (writes rule why (turn rule why s piece .next) more) []
 
 -- where it stands after these pieces, and whether it went on after each
-abbrev pub standAfter : Bool → Stand → List (List ℕ) → Stand
-standAfter why s [] = s
-standAfter why s (piece ∷ more) = standAfter why (turn why s piece .next) more
+abbrev pub standAfter : Rule → Bool → Stand → List (List ℕ) → Stand
+standAfter rule why s [] = s
+standAfter rule why s (piece ∷ more) = standAfter rule why (turn rule why s piece .next) more
 
-abbrev pub wentOn : Bool → Stand → List (List ℕ) → Bool
-wentOn why s [] = true
-wentOn why s (piece ∷ more) = turn why s piece .onward && wentOn why (turn why s piece .next) more
+abbrev pub wentOn : Rule → Bool → Stand → List (List ℕ) → Bool
+wentOn rule why s [] = true
+wentOn rule why s (piece ∷ more) = turn rule why s piece .onward && wentOn rule why (turn rule why s piece .next) more
 
 -- the desk that some pieces lead to, from the desk d₀ that the program opened
-pub record LedTo (why : Bool) (d₀ d : Desk House Change) : Type 0 where
+pub record LedTo (rule : Rule) (why : Bool) (d₀ d : Desk House Change) : Type 0 where
   pub pieces : List (List ℕ)
-  pub is : standAfter why (first d₀) pieces .desk ≡ d
+  pub is : standAfter rule why (first d₀) pieces .desk ≡ d
 
 -- pieces as reads give them before the input ends, each of some bytes, and the input that they are
 abbrev pub Pieces : List (List ℕ) → Type 0

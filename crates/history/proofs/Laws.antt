@@ -8,6 +8,7 @@ use lib.Dec.{eqb, ltb}
 use lib.ListN.{length, getD, take, drop}
 use Rattle.request.proofs.Absurd.{differ}
 use Rattle.records.specs.House.{House}
+use Rattle.records.specs.declared.Rule.{Rule}
 use Rattle.effects.specs.Effects.{applied}
 use Rattle.effects.specs.declared.Change.{Change}
 use Rattle.log.specs.Log.{pushed}
@@ -28,9 +29,9 @@ number-is-last last n e = by-top (eqb last top) e
     by-top false e = cc
 
 -- the parts after a change that is kept, put together
-module _ (b b' : House) (l l' : List Change) (h h' : House) (c : Change) (n m : ℕ) where
+module _ (rule : Rule) (b b' : House) (l l' : List Change) (h h' : House) (c : Change) (n m : ℕ) where
   pub kept-is : b' ≡ settled b l → l' ≡ pushed l c → h' ≡ applied h c
-      → record { base = b'; log = l'; current = h'; last = n } ≡ keepChange deskRules (record { base = b; log = l; current = h; last = m }) c n
+      → record { base = b'; log = l'; current = h'; last = n } ≡ keepChange (deskRules rule) (record { base = b; log = l; current = h; last = m }) c n
   unfolding keepChange
   kept-is e f g = by-room (ltb (length l) 32) e f
     where

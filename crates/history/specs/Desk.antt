@@ -2,18 +2,19 @@
 use Prim.Native.Nat.{ℕ, _+_, _%_}
 use mathlib.Core.Bool.{cond}
 use mathlib.Core.List.{List, [], _∷_, foldl}
-use lib.Dec.{ltb}
+use lib.Dec.{eqb, ltb}
 use lib.ListN.{length, take}
 use Rattle.request.specs.Bytes.{quadBytes}
 use Rattle.request.specs.declared.Request.{Request}
-use Rattle.records.specs.House.{House, view}
+use Rattle.records.specs.House.{House, emptyHouse, view}
+use Rattle.records.specs.declared.Rule.{Rule}
 use Rattle.effects.specs.Effects.{applied}
 use Rattle.effects.specs.declared.Change.{Change}
 use Rattle.log.specs.Log.{past}
 use Rattle.judge.specs.Kinds.{rulingOf}
 use Rattle.judge.specs.declared.Ruling.{Ruling}
 use Rattle.judge.specs.declared.Ruling.the-variants.{Refused, Pass, Keep, KeepNumbered, TakeBack}
-use Rattle.history.specs.Machine.{Verdict, refuse, pass, make, issue, undo, Rulebook, Desk}
+use Rattle.history.specs.Machine.{Verdict, refuse, pass, make, issue, undo, Rulebook, Desk, opened}
 use Rattle.history.specs.declared.Answer.{Answer}
 
 -- a change: the request, and the draft number that it received
@@ -27,12 +28,29 @@ verdictOf q Keep = make (changeOf q 0)
 verdictOf q KeepNumbered = issue (changeOf q)
 verdictOf q TakeBack = undo
 
-abbrev pub deskRules : Rulebook House Change Request
-deskRules = record { apply = applied; judge = λ h q. verdictOf q (rulingOf h q) }
+-- 02, L3: "A desk is opened under rule 1 or rule 2 for its whole life."
+abbrev pub deskRules : Rule → Rulebook House Change Request
+deskRules rule = record { apply = applied; judge = λ h q. verdictOf q (rulingOf rule h q) }
 
 -- what the parts of a desk and its last number show
 abbrev pub shown : List ℕ → List ℕ → List ℕ → ℕ → Desk House Change
 shown base log current last = record { base = view base; log = past log; current = view current; last = last }
+
+-- ---- opening a desk: the answer, the desk that is then open, and its rule
+pub record Opens : Type 0 where
+  pub answer : Answer
+  pub desk : Desk House Change
+  pub rule : Rule
+
+abbrev pub opens : Answer → Desk House Change → Rule → Opens
+opens answer d rule = record { answer = answer; desk = d; rule = rule }
+
+-- without records; 02, L3: "3 at opening for another rule number; it .. gives the empty desk with last number 0 and rule 1"
+abbrev pub openedUnder : ℕ → ℕ → Opens
+openedUnder last rule =
+    cond (eqb rule 1) (opens Answer.Granted (opened emptyHouse last) Rule.One)
+    (cond (eqb rule 2) (opens Answer.Granted (opened emptyHouse last) Rule.Two)
+    (opens (Answer.Refused 3) (opened emptyHouse 0) Rule.One))
 
 -- the base, where one more change is kept: of 32 the oldest goes into it
 abbrev pub settled : House → List Change → House

@@ -4,21 +4,23 @@ ghost use Prim.Native.Nat.{ℕ};
 ghost use Rattle.records.specs.House.{view, emptyHouse};
 ghost use Rattle.log.specs.Log.{past};
 ghost use Rattle.history.specs.Machine.{opened, outcome, keepChange, takeBack, issued, ruled, step};
-ghost use Rattle.history.specs.Desk.{shown, deskRules, changeOf, verdictOf, settled, answerByte};
+ghost use Rattle.history.specs.Desk.{shown, deskRules, opens, openedUnder, changeOf, verdictOf, settled, answerByte};
 ghost use Rattle.counter.specs.Numbers.{nextAfter};
 use counter::Next;
 use effects::Change;
 use judge::Ruling;
 use log::Log;
 use records::Cells;
+use records::Rule;
 use request::Request;
 
-// The records before the kept changes, the kept changes, the records after them, and the last draft number issued.
+// The records before the kept changes, the kept changes, the records after them, the last draft number issued, and the rule that the desk was opened under.
 pub struct Desk {
     pub base: [u32; 1858],
     pub log: [u8; 418],
     pub current: [u32; 1858],
     pub last: u32,
+    pub rule: Rule,
 }
 
 pub enum Answer {
@@ -38,16 +40,36 @@ pub fn answer_byte(answer: Answer) -> u8
     }
 }
 
-// Without records, and with the last draft number already used.
-pub fn open(last: u32) -> Desk
-    ensures { λ r. ⌜ shown (r .base) (r .log) (r .current) (r .last) ≡ opened emptyHouse last ⌝ }
+// What an opening answers, granted or refused with 3, and the desk that is then open.
+pub struct Opened {
+    pub answer: Answer,
+    pub desk: Desk,
+}
+
+fn empty_desk(answer: Answer, last: u32, rule: Rule) -> Opened
+    ensures { λ r. ⌜ opens (r .answer) (shown (r .desk .base) (r .desk .log) (r .desk .current) (r .desk .last)) (r .desk .rule) ≡ opens answer (opened emptyHouse last) rule ⌝ }
 {
-    Desk {
+    let desk = Desk {
         base: [0u32; 1858],
         log: [0u8; 418],
         current: [0u32; 1858],
         last,
+        rule,
+    };
+    Opened { answer, desk }
+}
+
+// Without records, with the last draft number already used, under rule 1 or 2.
+pub fn open(last: u32, rule: u32) -> Opened
+    ensures { λ r. ⌜ opens (r .answer) (shown (r .desk .base) (r .desk .log) (r .desk .current) (r .desk .last)) (r .desk .rule) ≡ openedUnder last rule ⌝ }
+{
+    if rule == 1 {
+        return empty_desk(Answer::Granted, last, Rule::One);
     }
+    if rule == 2 {
+        return empty_desk(Answer::Granted, last, Rule::Two);
+    }
+    empty_desk(Answer::Refused(3), 0, Rule::One)
 }
 
 // Of a full log the oldest change goes into the base: it can't be taken back any more.
@@ -62,7 +84,7 @@ fn settle(base: &mut Cells, log: &Log)
 }
 
 fn make(base: &mut Cells, log: &mut Log, current: &mut Cells, change: Change)
-    ensures { λ _. ⌜ ((n m : ℕ) → shown (now (base .exit)) (now (log .exit)) (now (current .exit)) n ≡ keepChange deskRules (shown (now (base .entry)) (now (log .entry)) (now (current .entry)) m) change n) ⌝ }
+    ensures { λ _. ⌜ ((rule : Rule) (n m : ℕ) → shown (now (base .exit)) (now (log .exit)) (now (current .exit)) n ≡ keepChange (deskRules rule) (shown (now (base .entry)) (now (log .entry)) (now (current .entry)) m) change n) ⌝ }
 {
     effects::apply(current, change);
     settle(base, log);
@@ -77,7 +99,7 @@ fn make_numbered(
     last: &mut u32,
     request: Request,
 ) -> Answer
-    ensures { λ r. ⌜ outcome (shown (now (base .exit)) (now (log .exit)) (now (current .exit)) (now (last .exit))) r ≡ issued deskRules (shown (now (base .entry)) (now (log .entry)) (now (current .entry)) (now (last .entry))) (changeOf request) (nextAfter (now (last .entry))) ⌝ }
+    ensures { λ r. ⌜ ((rule : Rule) → outcome (shown (now (base .exit)) (now (log .exit)) (now (current .exit)) (now (last .exit))) r ≡ issued (deskRules rule) (shown (now (base .entry)) (now (log .entry)) (now (current .entry)) (now (last .entry))) (changeOf request) (nextAfter (now (last .entry)))) ⌝ }
 {
     let issued = counter::issue_from(*last);
     let next = issued.next;
@@ -90,7 +112,7 @@ fn make_numbered(
 }
 
 fn take_back(base: &Cells, log: &mut Log, current: &mut Cells) -> Answer
-    ensures { λ r. ⌜ ((last : ℕ) → outcome (shown (now (base .entry)) (now (log .exit)) (now (current .exit)) last) r ≡ takeBack deskRules (shown (now (base .entry)) (now (log .entry)) (now (current .entry)) last)) ⌝ }
+    ensures { λ r. ⌜ ((rule : Rule) (last : ℕ) → outcome (shown (now (base .entry)) (now (log .exit)) (now (current .exit)) last) r ≡ takeBack (deskRules rule) (shown (now (base .entry)) (now (log .entry)) (now (current .entry)) last)) ⌝ }
 {
     if log::kept_count(log) == 0 {
         return Answer::Refused(12);
@@ -100,7 +122,7 @@ fn take_back(base: &Cells, log: &mut Log, current: &mut Cells) -> Answer
     Answer::Granted
 }
 
-// A request that is judged already: refused, passed, made and kept, or taken back. Only a take-back copies records.
+// A request that is judged already: refused, passed, made and kept, or taken back, which is the same by either rule. Only a take-back copies records.
 pub fn act(
     base: &mut Cells,
     log: &mut Log,
@@ -109,7 +131,7 @@ pub fn act(
     request: Request,
     ruling: Ruling,
 ) -> Answer
-    ensures { λ r. ⌜ outcome (shown (now (base .exit)) (now (log .exit)) (now (current .exit)) (now (last .exit))) r ≡ ruled deskRules (shown (now (base .entry)) (now (log .entry)) (now (current .entry)) (now (last .entry))) (verdictOf request ruling) ⌝ }
+    ensures { λ r. ⌜ ((rule : Rule) → outcome (shown (now (base .exit)) (now (log .exit)) (now (current .exit)) (now (last .exit))) r ≡ ruled (deskRules rule) (shown (now (base .entry)) (now (log .entry)) (now (current .entry)) (now (last .entry))) (verdictOf request ruling)) ⌝ }
 {
     match ruling {
         Ruling::Refused(reason) => Answer::Refused(reason.number),
@@ -123,16 +145,17 @@ pub fn act(
     }
 }
 
-// One request, on any desk.
+// One request, on any desk under the rule.
 pub fn take(
     base: &mut Cells,
     log: &mut Log,
     current: &mut Cells,
     last: &mut u32,
+    rule: Rule,
     request: Request,
 ) -> Answer
-    ensures { λ r. ⌜ outcome (shown (now (base .exit)) (now (log .exit)) (now (current .exit)) (now (last .exit))) r ≡ step deskRules (shown (now (base .entry)) (now (log .entry)) (now (current .entry)) (now (last .entry))) request ⌝ }
+    ensures { λ r. ⌜ outcome (shown (now (base .exit)) (now (log .exit)) (now (current .exit)) (now (last .exit))) r ≡ step (deskRules rule) (shown (now (base .entry)) (now (log .entry)) (now (current .entry)) (now (last .entry))) request ⌝ }
 {
-    let ruling = judge::judge(current, request);
+    let ruling = judge::judge(current, rule, request);
     act(base, log, current, last, request, ruling)
 }

@@ -8,11 +8,12 @@ use native.Mathlib.Omega.{arith}
 use lib.Dec.{eqb}
 use Rattle.records.specs.Lists.{any, all}
 use Rattle.records.specs.House.{House, emptyHouse}
+use Rattle.records.specs.declared.Rule.{Rule}
 use Rattle.request.specs.declared.Request.{Request}
 use Rattle.request.specs.declared.Request.the-variants.{Enrol, Establish, JoinStaff, LeaveStaff, JoinOutsider, LeaveOutsider, Add, Remove, Import, Merge, Disband, OpenInRoom, OpenInHouse, OpenReadOnly, Read, Update, Create, Kill, TakeBack}
 use Rattle.reasons.specs.Asking.{Line, asked, AllHold, FirstFailing, Failing, numbers, onceAfter}
 use Rattle.reasons.specs.Order.{rank, ascendFrom}
-use Rattle.reasons.specs.Shared.{pairNumbers, pairLed, draftLed, opens, covers, asScript, alike, draftAsked}
+use Rattle.reasons.specs.Shared.{pairNumbers, pairLed, draftLed, opens, covers, asScript, imports, draftAsked}
 use Rattle.reasons.specs.declared.Reason.{Reason}
 use Rattle.reasons.proofs.Order.{all-hold, first-fails, Verdict, grant, refusal, verdict, lowest, once-ascends, holds-at}
 use Rattle.judge.specs.declared.Ruling.{Ruling}
@@ -49,27 +50,27 @@ module _ (g : Ruling) (is-grant : (r : Reason) → g ≡ Refused r → ⊥) (ls 
           rw (sym z) f
 
 -- the numbers of every kind's lines ascend in the order of refusals
-pub lines-ascend : (h : House) (q : Request) → ascendFrom 0 (numbers (linesOf h q)) ≡ true
-unfolding enrolWhere establishLines pairNumbers pairLed draftLed importLines disbandLines opens covers asScript alike draftAsked createLines killLines takeBackLines
-lines-ascend h (Enrol u new sort level c admin) = refl
-lines-ascend h (Establish u room) = refl
-lines-ascend h (JoinStaff u w room) = refl
-lines-ascend h (LeaveStaff u w room) = refl
-lines-ascend h (JoinOutsider u w room level c) = refl
-lines-ascend h (LeaveOutsider u w room) = refl
-lines-ascend h (Add u s v room) = refl
-lines-ascend h (Remove u s v room) = refl
-lines-ascend h (Import u s₁ v s₂ room) = refl
-lines-ascend h (Merge u s v room) = refl
-lines-ascend h (Disband u room) = refl
-lines-ascend h (OpenInRoom u s room level c) = refl
-lines-ascend h (OpenInHouse u s level c) = refl
-lines-ascend h (OpenReadOnly u s level c) = refl
-lines-ascend h (Read s k v) = refl
-lines-ascend h (Update s k v) = refl
-lines-ascend h (Create s k) = refl
-lines-ascend h (Kill u s) = refl
-lines-ascend h (TakeBack u) = refl
+pub lines-ascend : (rule : Rule) (h : House) (q : Request) → ascendFrom 0 (numbers (linesOf rule h q)) ≡ true
+unfolding enrolWhere establishLines pairNumbers pairLed draftLed importLines disbandLines opens covers asScript imports draftAsked createLines killLines takeBackLines
+lines-ascend rule h (Enrol u new sort level c admin) = refl
+lines-ascend rule h (Establish u room) = refl
+lines-ascend rule h (JoinStaff u w room) = refl
+lines-ascend rule h (LeaveStaff u w room) = refl
+lines-ascend rule h (JoinOutsider u w room level c) = refl
+lines-ascend rule h (LeaveOutsider u w room) = refl
+lines-ascend rule h (Add u s v room) = refl
+lines-ascend rule h (Remove u s v room) = refl
+lines-ascend rule h (Import u s₁ v s₂ room) = refl
+lines-ascend rule h (Merge u s v room) = refl
+lines-ascend rule h (Disband u room) = refl
+lines-ascend rule h (OpenInRoom u s room level c) = refl
+lines-ascend rule h (OpenInHouse u s level c) = refl
+lines-ascend rule h (OpenReadOnly u s level c) = refl
+lines-ascend rule h (Read s k v) = refl
+lines-ascend rule h (Update s k v) = refl
+lines-ascend rule h (Create s k) = refl
+lines-ascend rule h (Kill u s) = refl
+lines-ascend rule h (TakeBack u) = refl
 
 -- ---- of every house and request
 pub grant-is-none : (q : Request) (r : Reason) → grantOf q ≡ Refused r → ⊥
@@ -93,71 +94,71 @@ grant-is-none (Create s k) r e = let z : _≡_ {A = ℕ} 0 1 = cc in omega arith
 grant-is-none (Kill u s) r e = let z : _≡_ {A = ℕ} 0 1 = cc in omega arith
 grant-is-none (TakeBack u) r e = let z : _≡_ {A = ℕ} 0 1 = cc in omega arith
 
-module _ (h : House) (q : Request) where
+module _ (rule : Rule) (h : House) (q : Request) where
   -- granted exactly where every fact of the kind holds
-  pub granted-exactly : (rulingOf h q ≡ grantOf q → AllHold (linesOf h q)) × (AllHold (linesOf h q) → rulingOf h q ≡ grantOf q)
+  pub granted-exactly : (rulingOf rule h q ≡ grantOf q → AllHold (linesOf rule h q)) × (AllHold (linesOf rule h q) → rulingOf rule h q ≡ grantOf q)
   unfolding rulingOf
-  granted-exactly = (granted-all (grantOf q) (grant-is-none q) (linesOf h q), all-granted (grantOf q))
+  granted-exactly = (granted-all (grantOf q) (grant-is-none q) (linesOf rule h q), all-granted (grantOf q))
 
   -- refused with r exactly where r is the reason of the first fact that fails
-  pub refused-exactly : (r : Reason) → (rulingOf h q ≡ Refused r → FirstFailing r (linesOf h q)) × (FirstFailing r (linesOf h q) → rulingOf h q ≡ Refused r)
+  pub refused-exactly : (r : Reason) → (rulingOf rule h q ≡ Refused r → FirstFailing r (linesOf rule h q)) × (FirstFailing r (linesOf rule h q) → rulingOf rule h q ≡ Refused r)
   unfolding rulingOf
-  refused-exactly r = (refused-first (grantOf q) (grant-is-none q) (linesOf h q) r, first-refused (grantOf q))
+  refused-exactly r = (refused-first (grantOf q) (grant-is-none q) (linesOf rule h q) r, first-refused (grantOf q))
 
   -- and then no fact fails whose number stands before in the order of refusals
-  pub lowest-given : (r : Reason) (k : ℕ) → rulingOf h q ≡ Refused r → Failing k (linesOf h q) → rank (r .number) ≤ rank k
-  lowest-given r k e f = lowest 0 (lines-ascend h q) (refused-exactly r .0 e) f
+  pub lowest-given : (r : Reason) (k : ℕ) → rulingOf rule h q ≡ Refused r → Failing k (linesOf rule h q) → rank (r .number) ≤ rank k
+  lowest-given r k e f = lowest 0 (lines-ascend rule h q) (refused-exactly r .0 e) f
 
 -- ---- the table of refusals
 -- a kind's row has the numbers of its lines, each once
-pub row-exact : (h : House) (q : Request) → onceAfter 0 (numbers (linesOf h q)) ≡ refusals q
-unfolding enrolWhere establishLines pairNumbers pairLed draftLed importLines disbandLines opens covers asScript alike draftAsked createLines killLines takeBackLines
-row-exact h (Enrol u new sort level c admin) = refl
-row-exact h (Establish u room) = refl
-row-exact h (JoinStaff u w room) = refl
-row-exact h (LeaveStaff u w room) = refl
-row-exact h (JoinOutsider u w room level c) = refl
-row-exact h (LeaveOutsider u w room) = refl
-row-exact h (Add u s v room) = refl
-row-exact h (Remove u s v room) = refl
-row-exact h (Import u s₁ v s₂ room) = refl
-row-exact h (Merge u s v room) = refl
-row-exact h (Disband u room) = refl
-row-exact h (OpenInRoom u s room level c) = refl
-row-exact h (OpenInHouse u s level c) = refl
-row-exact h (OpenReadOnly u s level c) = refl
-row-exact h (Read s k v) = refl
-row-exact h (Update s k v) = refl
-row-exact h (Create s k) = refl
-row-exact h (Kill u s) = refl
-row-exact h (TakeBack u) = refl
+pub row-exact : (rule : Rule) (h : House) (q : Request) → onceAfter 0 (numbers (linesOf rule h q)) ≡ refusals q
+unfolding enrolWhere establishLines pairNumbers pairLed draftLed importLines disbandLines opens covers asScript imports draftAsked createLines killLines takeBackLines
+row-exact rule h (Enrol u new sort level c admin) = refl
+row-exact rule h (Establish u room) = refl
+row-exact rule h (JoinStaff u w room) = refl
+row-exact rule h (LeaveStaff u w room) = refl
+row-exact rule h (JoinOutsider u w room level c) = refl
+row-exact rule h (LeaveOutsider u w room) = refl
+row-exact rule h (Add u s v room) = refl
+row-exact rule h (Remove u s v room) = refl
+row-exact rule h (Import u s₁ v s₂ room) = refl
+row-exact rule h (Merge u s v room) = refl
+row-exact rule h (Disband u room) = refl
+row-exact rule h (OpenInRoom u s room level c) = refl
+row-exact rule h (OpenInHouse u s level c) = refl
+row-exact rule h (OpenReadOnly u s level c) = refl
+row-exact rule h (Read s k v) = refl
+row-exact rule h (Update s k v) = refl
+row-exact rule h (Create s k) = refl
+row-exact rule h (Kill u s) = refl
+row-exact rule h (TakeBack u) = refl
 
 -- and they ascend in the order of refusals
 pub row-ascends : (q : Request) → ascendFrom 0 (refusals q) ≡ true
-row-ascends q = rw (← row-exact emptyHouse q) (once-ascends 0 0 (numbers (linesOf emptyHouse q)) (lines-ascend emptyHouse q))
+row-ascends q = rw (← row-exact Rule.One emptyHouse q) (once-ascends 0 0 (numbers (linesOf Rule.One emptyHouse q)) (lines-ascend Rule.One emptyHouse q))
 
-rows-hold : (h : House) (q : Request) → all (λ n. any (eqb n) (refusals q)) (numbers (linesOf h q)) ≡ true
-unfolding enrolWhere establishLines pairNumbers pairLed draftLed importLines disbandLines opens covers asScript alike draftAsked createLines killLines takeBackLines
-rows-hold h (Enrol u new sort level c admin) = refl
-rows-hold h (Establish u room) = refl
-rows-hold h (JoinStaff u w room) = refl
-rows-hold h (LeaveStaff u w room) = refl
-rows-hold h (JoinOutsider u w room level c) = refl
-rows-hold h (LeaveOutsider u w room) = refl
-rows-hold h (Add u s v room) = refl
-rows-hold h (Remove u s v room) = refl
-rows-hold h (Import u s₁ v s₂ room) = refl
-rows-hold h (Merge u s v room) = refl
-rows-hold h (Disband u room) = refl
-rows-hold h (OpenInRoom u s room level c) = refl
-rows-hold h (OpenInHouse u s level c) = refl
-rows-hold h (OpenReadOnly u s level c) = refl
-rows-hold h (Read s k v) = refl
-rows-hold h (Update s k v) = refl
-rows-hold h (Create s k) = refl
-rows-hold h (Kill u s) = refl
-rows-hold h (TakeBack u) = refl
+rows-hold : (rule : Rule) (h : House) (q : Request) → all (λ n. any (eqb n) (refusals q)) (numbers (linesOf rule h q)) ≡ true
+unfolding enrolWhere establishLines pairNumbers pairLed draftLed importLines disbandLines opens covers asScript imports draftAsked createLines killLines takeBackLines
+rows-hold rule h (Enrol u new sort level c admin) = refl
+rows-hold rule h (Establish u room) = refl
+rows-hold rule h (JoinStaff u w room) = refl
+rows-hold rule h (LeaveStaff u w room) = refl
+rows-hold rule h (JoinOutsider u w room level c) = refl
+rows-hold rule h (LeaveOutsider u w room) = refl
+rows-hold rule h (Add u s v room) = refl
+rows-hold rule h (Remove u s v room) = refl
+rows-hold rule h (Import u s₁ v s₂ room) = refl
+rows-hold rule h (Merge u s v room) = refl
+rows-hold rule h (Disband u room) = refl
+rows-hold rule h (OpenInRoom u s room level c) = refl
+rows-hold rule h (OpenInHouse u s level c) = refl
+rows-hold rule h (OpenReadOnly u s level c) = refl
+rows-hold rule h (Read s k v) = refl
+rows-hold rule h (Update s k v) = refl
+rows-hold rule h (Create s k) = refl
+rows-hold rule h (Kill u s) = refl
+rows-hold rule h (TakeBack u) = refl
 
 -- a kind is refused only with a number of its row
-pub refused-by-table : (h : House) (q : Request) (r : Reason) → rulingOf h q ≡ Refused r → any (eqb (r .number)) (refusals q) ≡ true
-refused-by-table h q r e = holds-at (λ m. any (eqb m) (refusals q)) (rows-hold h q) (refused-exactly h q r .0 e)
+pub refused-by-table : (rule : Rule) (h : House) (q : Request) (r : Reason) → rulingOf rule h q ≡ Refused r → any (eqb (r .number)) (refusals q) ≡ true
+refused-by-table rule h q r e = holds-at (λ m. any (eqb m) (refusals q)) (rows-hold rule h q) (refused-exactly rule h q r .0 e)

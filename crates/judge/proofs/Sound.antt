@@ -15,13 +15,14 @@ use Rattle.records.proofs.Lookups.{found-draft, found-is, found-below, no-draft
 use Rattle.conditions.specs.Conditions.{noUsers, isUser, isScript, isSession, isDraft}
 use Rattle.conditions.proofs.Labels.{level-alike}
 use Rattle.fields.specs.Fields.{isFirst}
+use Rattle.records.specs.declared.Rule.{Rule}
 use Rattle.request.specs.declared.Request.{Request}
 use Rattle.request.specs.declared.Request.the-variants.{Enrol, Establish, JoinStaff, LeaveStaff, JoinOutsider, LeaveOutsider, Add, Remove, Import, Merge, Disband, OpenInRoom, OpenInHouse, OpenReadOnly, Read, Update, Create, Kill, TakeBack}
 use Rattle.reasons.specs.Reasons.{noRecord, reason}
 use Rattle.reasons.specs.Asking.{Line, _unless_, _because_, FirstFailing, here, later}
 use Rattle.reasons.specs.Lines.{aLevel}
-use Rattle.reasons.specs.Shared.{pairNumbers, pairLed, draftLed, opens, covers, asScript, alike, draftAsked}
-use Rattle.reasons.specs.Told.{Live, Told, over63, over16, under1, over7, noSort, noYesNo, notPlain, noUser, noRoom, noScript, noSession, noDraft, userIs, roomIs, sessionIs, scriptIs, notFirst, noAdmin, leadsNot, endsNot, noStaff, staffIs, noFreelancer, readsOnly, inAlready, notIn, notAmong, isAmong, unseen, notSeated, otherOrigin, levelAbove, categoriesMore, levelUnder, categoriesLack, levelOther, categoriesOther, levelUnlike, categoriesUnlike, full}
+use Rattle.reasons.specs.Shared.{pairNumbers, pairLed, draftLed, opens, covers, asScript, imports, draftAsked}
+use Rattle.reasons.specs.Told.{Live, Told, over63, over16, under1, over7, noSort, noYesNo, notPlain, noUser, noRoom, noScript, noSession, noDraft, userIs, roomIs, sessionIs, scriptIs, notFirst, noAdmin, leadsNot, endsNot, noStaff, staffIs, noFreelancer, readsOnly, inAlready, notIn, notAmong, isAmong, unseen, notSeated, otherOrigin, levelAbove, categoriesMore, levelUnder, categoriesLack, levelOther, categoriesOther, levelUnlike, categoriesUnlike, levelBelow, categoriesFewer, full}
 use Rattle.reasons.specs.declared.Reason.{Reason}
 use Rattle.judge.specs.declared.Ruling.the-variants.{Refused}
 use Rattle.judge.specs.Kinds.{enrolWhere, establishLines, importLines, disbandLines, createLines, killLines, takeBackLines, enrolLines, linesOf, rulingOf}
@@ -67,47 +68,47 @@ live h k v t = go (findDraft h k v) refl
     }
 
 -- ---- the kinds
-module _ (h : House) where
-  of-the-first : (field wanted : ℕ) → isFirst (noUsers h) field wanted ≡ false → Told h (reason 6 (noRecord field wanted))
+module _ (rule : Rule) (h : House) where
+  of-the-first : (field wanted : ℕ) → isFirst (noUsers h) field wanted ≡ false → Told rule h (reason 6 (noRecord field wanted))
   of-the-first field wanted e = notFirst field wanted (not-false _ (or-false (not (noUsers h)) _ e .0)) (or-false (not (noUsers h)) _ e .1)
 
-  sound-enrol : (u new sort level c admin : ℕ) → Sound (Told h) (enrolLines h u new sort level c admin)
+  sound-enrol : (u new sort level c admin : ℕ) → Sound (Told rule h) (enrolLines h u new sort level c admin)
   unfolding enrolWhere
   sound-enrol u new sort level c admin =
       (over63 u, λ _. (over63 new, λ _. (over7 level, λ _. (noSort sort, λ _. (noYesNo admin, λ _. (notPlain sort level, λ _. (notPlain sort c, λ _. (notPlain sort admin, λ _. (λ e. noUser u (or-false (noUsers h) _ e .1), λ a. (λ e. userIs new (not-false _ e), λ _. (of-the-first u new, λ _. (of-the-first sort staff, λ _. (of-the-first admin 1, λ _. (λ e. noAdmin u (or-right (noUsers h) _ a (or-false (noUsers h) _ e .0)) (or-false (noUsers h) _ e .1), λ _. tt))))))))))))))
 
   -- what kinds have in common, and then what is their own
-  sound-found : (u w room : ℕ) (own : List Line) → (isUser h w ≡ true → Sound (Told h) own) → Sound (Told h) (pairLed h u w room ++ own)
+  sound-found : (u w room : ℕ) (own : List Line) → (isUser h w ≡ true → Sound (Told rule h) own) → Sound (Told rule h) (pairLed h u w room ++ own)
   unfolding pairLed
   sound-found u w room own s = (noUser u, λ a. (noUser w, λ b. (noRoom room, λ _. (leadsNot u room a, λ _. s b))))
 
-  sound-pair : (u w room : ℕ) (own : List Line) → (isUser h w ≡ true → Sound (Told h) own) → Sound (Told h) (pairNumbers u w room ++ pairLed h u w room ++ own)
+  sound-pair : (u w room : ℕ) (own : List Line) → (isUser h w ≡ true → Sound (Told rule h) own) → Sound (Told rule h) (pairNumbers u w room ++ pairLed h u w room ++ own)
   unfolding pairNumbers
   sound-pair u w room own s = (over63 u, λ _. (over63 w, λ _. (over16 room, λ _. (under1 room, λ _. sound-found u w room own s))))
 
-  sound-outsider : (u w room level : ℕ) (own : List Line) → (isUser h w ≡ true → Sound (Told h) own) → Sound (Told h) (pairNumbers u w room ++ (aLevel level ∷ []) ++ pairLed h u w room ++ own)
+  sound-outsider : (u w room level : ℕ) (own : List Line) → (isUser h w ≡ true → Sound (Told rule h) own) → Sound (Told rule h) (pairNumbers u w room ++ (aLevel level ∷ []) ++ pairLed h u w room ++ own)
   unfolding pairNumbers
   sound-outsider u w room level own s = (over63 u, λ _. (over63 w, λ _. (over16 room, λ _. (under1 room, λ _. (over7 level, λ _. sound-found u w room own s)))))
 
-  sound-led : (u k v room : ℕ) (own : List Line) → (isScript h k ≡ true → Live h v (draft h k v) → Sound (Told h) own) → Sound (Told h) (draftLed h u k v room ++ own)
+  sound-led : (u k v room : ℕ) (own : List Line) → (isScript h k ≡ true → Live h v (draft h k v) → Sound (Told rule h) own) → Sound (Told rule h) (draftLed h u k v room ++ own)
   unfolding draftLed
   sound-led u k v room own s = (over63 u, λ _. (over63 k, λ _. (over16 room, λ _. (under1 room, λ _. (noUser u, λ a. (noRoom room, λ _. (noScript k, λ t. (noDraft k v, λ d. (leadsNot u room a, λ _. s t (live h k v d))))))))))
 
-  sound-opens : (u level c : ℕ) → isUser h u ≡ true → Sound (Told h) (opens h u level c)
+  sound-opens : (u level c : ℕ) → isUser h u ≡ true → Sound (Told rule h) (opens h u level c)
   unfolding opens
   sound-opens u level c a = (
     λ e. levelAbove u level a (ltb-true (user h u .level) level (not-false _ e)),
     λ t. (λ e. categoriesMore u c a (not-true _ (not-false _ e)), λ _. tt),
   )
 
-  sound-covers : (s k : ℕ) → isSession h s ≡ true → isScript h k ≡ true → Sound (Told h) (covers h s k)
+  sound-covers : (s k : ℕ) → isSession h s ≡ true → isScript h k ≡ true → Sound (Told rule h) (covers h s k)
   unfolding covers
   sound-covers s k b a = (
     λ e. levelUnder s k b a (ltb-true (session h s .level) (script h k .level) (not-false _ e)),
     λ t. (λ e. categoriesLack s k b a (ltb-false (session h s .level) (script h k .level) (not-true _ t)) (not-true _ (not-false _ e)), λ _. tt),
   )
 
-  sound-as-script : (s k : ℕ) (own : List Line) → isSession h s ≡ true → isScript h k ≡ true → Sound (Told h) own → Sound (Told h) (asScript h s k ++ own)
+  sound-as-script : (s k : ℕ) (own : List Line) → isSession h s ≡ true → isScript h k ≡ true → Sound (Told rule h) own → Sound (Told rule h) (asScript h s k ++ own)
   unfolding asScript
   sound-as-script s k own b a rest =
       let x = session h s in
@@ -120,24 +121,33 @@ module _ (h : House) where
         ),
       )
 
-  sound-alike : (k₁ k₂ : ℕ) (own : List Line) → isScript h k₁ ≡ true → isScript h k₂ ≡ true → Sound (Told h) own → Sound (Told h) (alike h k₁ k₂ ++ own)
-  unfolding alike
-  sound-alike k₁ k₂ own s t rest =
+  -- what Import asks under the rule r, which is the desk's
+  sound-imports : (r : Rule) → rule ≡ r → (k₁ k₂ : ℕ) (own : List Line) → isScript h k₁ ≡ true → isScript h k₂ ≡ true → Sound (Told rule h) own
+      → Sound (Told rule h) (imports r h k₁ k₂ ++ own)
+  unfolding imports
+  sound-imports Rule.One is k₁ k₂ own s t rest =
       let x = script h k₂ in
       let y = script h k₁ in (
-        λ e. levelUnlike k₁ k₂ s t (other (x .level) (y .level) (level-differs (x .origin) (x .level) (x .categories) (y .origin) (y .level) (y .categories)) e),
+        λ e. levelUnlike k₁ k₂ is s t (other (x .level) (y .level) (level-differs (x .origin) (x .level) (x .categories) (y .origin) (y .level) (y .categories)) e),
         λ f. (
-          λ e. categoriesUnlike k₁ k₂ s t (level-alike (x .origin) (x .level) (x .categories) (y .origin) (y .level) (y .categories) .says f)
+          λ e. categoriesUnlike k₁ k₂ is s t (level-alike (x .origin) (x .level) (x .categories) (y .origin) (y .level) (y .categories) .says f)
               (other (x .categories) (y .categories) (categories-differ (x .origin) (x .level) (x .categories) (y .origin) (y .level) (y .categories)) e),
           λ _. rest,
         ),
       )
+  sound-imports Rule.Two is k₁ k₂ own s t rest = (
+    λ e. levelBelow k₁ k₂ is s t (ltb-true (script h k₂ .level) (script h k₁ .level) (not-false _ e)),
+    λ f. (
+      λ e. categoriesFewer k₁ k₂ is s t (ltb-false (script h k₂ .level) (script h k₁ .level) (not-true _ f)) (not-true _ (not-false _ e)),
+      λ _. rest,
+    ),
+  )
 
-  sound-asked : (s k v : ℕ) (own : List Line) → (isScript h k ≡ true → isSession h s ≡ true → Live h v (draft h k v) → Sound (Told h) own) → Sound (Told h) (draftAsked h s k v ++ own)
+  sound-asked : (s k v : ℕ) (own : List Line) → (isScript h k ≡ true → isSession h s ≡ true → Live h v (draft h k v) → Sound (Told rule h) own) → Sound (Told rule h) (draftAsked h s k v ++ own)
   unfolding draftAsked
   sound-asked s k v own f = (over63 k, λ _. (over63 s, λ _. (noScript k, λ a. (noSession s, λ b. (noDraft k v, λ d. f a b (live h k v d))))))
 
-  sound-lines : (q : Request) → Sound (Told h) (linesOf h q)
+  sound-lines : (q : Request) → Sound (Told rule h) (linesOf rule h q)
   unfolding establishLines importLines disbandLines createLines killLines takeBackLines
   sound-lines (Enrol u new sort level c admin) = sound-enrol u new sort level c admin
   sound-lines (Establish u room) = (over63 u, λ _. (over16 room, λ _. (under1 room, λ _. (noUser u, λ a. (λ e. roomIs room (not-false _ e), λ _. (noAdmin u a, λ _. tt))))))
@@ -147,7 +157,7 @@ module _ (h : House) where
   sound-lines (LeaveOutsider u w room) = sound-pair u w room _ (λ b. (noFreelancer w b, λ _. (notIn w room b, λ _. tt)))
   sound-lines (Add u k v room) = sound-led u k v room _ (λ _ l. (notAmong v (draft h k v) house l, λ _. (λ e. isAmong v (draft h k v) room l (not-false _ e), λ _. tt)))
   sound-lines (Remove u k v room) = sound-led u k v room _ (λ _ l. (notAmong v (draft h k v) room l, λ _. tt))
-  sound-lines (Import u k₁ v k₂ room) = (over63 u, λ _. (over63 k₁, λ _. (over63 k₂, λ _. (over16 room, λ _. (under1 room, λ _. (noUser u, λ a. (noRoom room, λ _. (noScript k₁, λ s. (noScript k₂, λ t. (noDraft k₁ v, λ _. (leadsNot u room a, λ _. (otherOrigin k₁ room s, λ _. (otherOrigin k₂ house t, λ _. sound-alike k₁ k₂ _ s t (full, λ _. tt))))))))))))))
+  sound-lines (Import u k₁ v k₂ room) = (over63 u, λ _. (over63 k₁, λ _. (over63 k₂, λ _. (over16 room, λ _. (under1 room, λ _. (noUser u, λ a. (noRoom room, λ _. (noScript k₁, λ s. (noScript k₂, λ t. (noDraft k₁ v, λ _. (leadsNot u room a, λ _. (otherOrigin k₁ room s, λ _. (otherOrigin k₂ house t, λ _. sound-imports rule refl k₁ k₂ _ s t (full, λ _. tt))))))))))))))
   sound-lines (Merge u k v room) = sound-led u k v room _ (λ t l. (notAmong v (draft h k v) room l, λ _. (otherOrigin k house t, λ _. tt)))
   sound-lines (Disband u room) = (over63 u, λ _. (over16 room, λ _. (under1 room, λ _. (noUser u, λ a. (noRoom room, λ _. (leadsNot u room a, λ _. tt))))))
   sound-lines (OpenInRoom u s room level c) = (over63 u, λ _. (over63 s, λ _. (over16 room, λ _. (under1 room, λ _. (over7 level, λ _. (noUser u, λ a. (noRoom room, λ _. (λ e. sessionIs s (not-false _ e), λ _. (notIn u room a, λ _. sound-opens u level c a)))))))))
@@ -160,8 +170,8 @@ module _ (h : House) where
   sound-lines (TakeBack u) = (over63 u, λ _. (noUser u, λ a. (noAdmin u a, λ _. tt)))
 
   -- "the condition named is false of those records": every reason is true of the present records
-  pub first-told : (q : Request) (r : Reason) → FirstFailing r (linesOf h q) → Told h r
-  first-told q r f = of-first (Told h) (sound-lines q) f
+  pub first-told : (q : Request) (r : Reason) → FirstFailing r (linesOf rule h q) → Told rule h r
+  first-told q r f = of-first (Told rule h) (sound-lines q) f
 
-  pub reason-told : (q : Request) (r : Reason) → rulingOf h q ≡ Refused r → Told h r
-  reason-told q r e = first-told q r (refused-exactly h q r .0 e)
+  pub reason-told : (q : Request) (r : Reason) → rulingOf rule h q ≡ Refused r → Told rule h r
+  reason-told q r e = first-told q r (refused-exactly rule h q r .0 e)

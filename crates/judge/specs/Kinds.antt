@@ -5,12 +5,13 @@ use mathlib.Core.Bool.{Bool}
 use mathlib.Core.List.{List, [], _∷_, _++_}
 use Rattle.records.specs.House.{House, house, staff}
 use Rattle.records.specs.Lookups.{draft}
+use Rattle.records.specs.declared.Rule.{Rule}
 use Rattle.request.specs.declared.Request.{Request}
 use Rattle.request.specs.declared.Request.the-variants.{Enrol, Establish, JoinStaff, LeaveStaff, JoinOutsider, LeaveOutsider, Add, Remove, Import, Merge, Disband, OpenInRoom, OpenInHouse, OpenReadOnly, Read, Update, Create, Kill, TakeBack}
 use Rattle.conditions.specs.Conditions.{noUsers}
 use Rattle.reasons.specs.Asking.{Line, asked}
 use Rattle.reasons.specs.Lines.{anId, roomHigh, roomLow, aLevel, aSort, aYesNo, plain, userExists, enrollerExists, roomExists, scriptExists, sessionExists, draftExists, userNew, roomNew, sessionNew, scriptNew, firstHas, enrolls, administers, leadsRoom, endsSession, ofStaff, notOfStaff, aFreelancer, writesIn, notYetIn, inRoom, draftAmong, draftNotAmong, seesDraft, seatedAt, originIs, roomForDraft}
-use Rattle.reasons.specs.Shared.{pairNumbers, pairLed, draftLed, opens, covers, asScript, alike, draftAsked}
+use Rattle.reasons.specs.Shared.{pairNumbers, pairLed, draftLed, opens, covers, asScript, imports, draftAsked}
 use Rattle.reasons.specs.declared.Asked.{Asked}
 use Rattle.reasons.specs.declared.Asked.the-variants.{Holds, Fails}
 use Rattle.judge.specs.declared.Ruling.{Ruling}
@@ -60,8 +61,9 @@ addLines h u k v room = draftLed h u k v room ++ (draftAmong v (draft h k v) hou
 abbrev pub removeLines : House → ℕ → ℕ → ℕ → ℕ → List Line
 removeLines h u k v room = draftLed h u k v room ++ (draftAmong v (draft h k v) room ∷ [])
 
-unfoldable pub importLines : House → ℕ → ℕ → ℕ → ℕ → ℕ → List Line
-importLines h u k₁ v k₂ room =
+-- 02, L3: "Only refusals 9 and 16 at Import are amended": the rule is asked here alone
+unfoldable pub importLines : Rule → House → ℕ → ℕ → ℕ → ℕ → ℕ → List Line
+importLines rule h u k₁ v k₂ room =
     anId u
     ∷ anId k₁
     ∷ anId k₂
@@ -75,7 +77,7 @@ importLines h u k₁ v k₂ room =
     ∷ leadsRoom h u room
     ∷ originIs h k₁ room
     ∷ originIs h k₂ house
-    ∷ (alike h k₁ k₂ ++ (roomForDraft h ∷ []))
+    ∷ (imports rule h k₁ k₂ ++ (roomForDraft h ∷ []))
 
 abbrev pub mergeLines : House → ℕ → ℕ → ℕ → ℕ → List Line
 mergeLines h u k v room = draftLed h u k v room ++ (draftAmong v (draft h k v) room ∷ originIs h k house ∷ [])
@@ -119,27 +121,27 @@ killLines h u s = anId u ∷ anId s ∷ userExists h u ∷ sessionExists h s ∷
 unfoldable pub takeBackLines : House → ℕ → List Line
 takeBackLines h u = anId u ∷ userExists h u ∷ administers h u ∷ []
 
--- ---- every kind: its conditions, and what it is granted where all hold
-abbrev pub linesOf : House → Request → List Line
-linesOf h (Enrol u new sort level c admin) = enrolLines h u new sort level c admin
-linesOf h (Establish u room) = establishLines h u room
-linesOf h (JoinStaff u w room) = joinStaffLines h u w room
-linesOf h (LeaveStaff u w room) = leaveStaffLines h u w room
-linesOf h (JoinOutsider u w room level c) = joinOutsiderLines h u w room level
-linesOf h (LeaveOutsider u w room) = leaveOutsiderLines h u w room
-linesOf h (Add u k v room) = addLines h u k v room
-linesOf h (Remove u k v room) = removeLines h u k v room
-linesOf h (Import u k₁ v k₂ room) = importLines h u k₁ v k₂ room
-linesOf h (Merge u k v room) = mergeLines h u k v room
-linesOf h (Disband u room) = disbandLines h u room
-linesOf h (OpenInRoom u s room level c) = openInRoomLines h u s room level c
-linesOf h (OpenInHouse u s level c) = openInHouseLines h u s level c
-linesOf h (OpenReadOnly u s level c) = openReadOnlyLines h u s level c
-linesOf h (Read s k v) = readLines h s k v
-linesOf h (Update s k v) = updateLines h s k v
-linesOf h (Create s k) = createLines h s k
-linesOf h (Kill u s) = killLines h u s
-linesOf h (TakeBack u) = takeBackLines h u
+-- ---- every kind: its conditions under the rule, and what it is granted where all hold
+abbrev pub linesOf : Rule → House → Request → List Line
+linesOf rule h (Enrol u new sort level c admin) = enrolLines h u new sort level c admin
+linesOf rule h (Establish u room) = establishLines h u room
+linesOf rule h (JoinStaff u w room) = joinStaffLines h u w room
+linesOf rule h (LeaveStaff u w room) = leaveStaffLines h u w room
+linesOf rule h (JoinOutsider u w room level c) = joinOutsiderLines h u w room level
+linesOf rule h (LeaveOutsider u w room) = leaveOutsiderLines h u w room
+linesOf rule h (Add u k v room) = addLines h u k v room
+linesOf rule h (Remove u k v room) = removeLines h u k v room
+linesOf rule h (Import u k₁ v k₂ room) = importLines rule h u k₁ v k₂ room
+linesOf rule h (Merge u k v room) = mergeLines h u k v room
+linesOf rule h (Disband u room) = disbandLines h u room
+linesOf rule h (OpenInRoom u s room level c) = openInRoomLines h u s room level c
+linesOf rule h (OpenInHouse u s level c) = openInHouseLines h u s level c
+linesOf rule h (OpenReadOnly u s level c) = openReadOnlyLines h u s level c
+linesOf rule h (Read s k v) = readLines h s k v
+linesOf rule h (Update s k v) = updateLines h s k v
+linesOf rule h (Create s k) = createLines h s k
+linesOf rule h (Kill u s) = killLines h u s
+linesOf rule h (TakeBack u) = takeBackLines h u
 
 -- "Kept changes: every granted request but Read and Take back."; "granted with a draft number (09, 14, 15)"
 abbrev pub grantOf : Request → Ruling
@@ -168,5 +170,5 @@ abbrev pub grantIf : Ruling → Asked → Ruling
 grantIf grant Holds = grant
 grantIf grant (Fails r) = Refused r
 
-unfoldable pub rulingOf : House → Request → Ruling
-rulingOf h q = grantIf (grantOf q) (asked (linesOf h q))
+unfoldable pub rulingOf : Rule → House → Request → Ruling
+rulingOf rule h q = grantIf (grantOf q) (asked (linesOf rule h q))

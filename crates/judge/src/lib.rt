@@ -17,6 +17,7 @@ use people::take_back;
 use reasons::Asked;
 use reasons::Reason;
 use records::Cells;
+use records::Rule;
 use request::Request;
 use sessions::create;
 use sessions::kill;
@@ -53,9 +54,9 @@ fn grant_if(grant: Ruling, asked: Asked) -> Ruling
     }
 }
 
-// ---- every kind. The ruling stands in each arm, so that a kind's walk is compiled into it.
-pub fn judge(records: &Cells, request: Request) -> Ruling
-    ensures { λ r. ⌜ r ≡ rulingOf (view (now (records .entry))) request ⌝ }
+// ---- every kind, on a desk under the rule. The ruling stands in each arm, so that a kind's walk is compiled into it.
+pub fn judge(records: &Cells, rule: Rule, request: Request) -> Ruling
+    ensures { λ r. ⌜ r ≡ rulingOf rule (view (now (records .entry))) request ⌝ }
 {
     match request {
         Request::Enrol {
@@ -109,7 +110,7 @@ pub fn judge(records: &Cells, request: Request) -> Ruling
             room,
         } => grant_if(
             Ruling::KeepNumbered,
-            import(records, u, script1, number, script2, room),
+            import(records, rule, u, script1, number, script2, room),
         ),
         Request::Merge {
             u,

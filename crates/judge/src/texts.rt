@@ -5,6 +5,7 @@ ghost use Rattle.reasons.specs.Asking.{asked};
 ghost use Rattle.judge.specs.Kinds.{addLines, removeLines, importLines, mergeLines};
 use reasons::Asked;
 use records::Cells;
+use records::Rule;
 
 // 07 Add
 pub(crate) fn add(records: &Cells, u: u8, script: u8, number: u32, room: u8) -> Asked
@@ -29,13 +30,14 @@ pub(crate) fn remove(records: &Cells, u: u8, script: u8, number: u32, room: u8) 
 // 09 Import
 pub(crate) fn import(
     records: &Cells,
+    rule: Rule,
     u: u8,
     script1: u8,
     number: u32,
     script2: u8,
     room: u8,
 ) -> Asked
-    ensures { λ r. ⌜ r ≡ asked (importLines (view (now (records .entry))) u script1 number script2 room) ⌝ }
+    ensures { λ r. ⌜ r ≡ asked (importLines rule (view (now (records .entry))) u script1 number script2 room) ⌝ }
 {
     let draft = Asked::Holds
         .id(u)
@@ -53,7 +55,7 @@ pub(crate) fn import(
         .leads(records, u, room)
         .of_origin(records, script1, room)
         .of_origin(records, script2, 0)
-        .alike(records, script1, script2)
+        .imports(records, rule, script1, script2)
         .draft_room(records)
 }
 

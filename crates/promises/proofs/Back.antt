@@ -8,6 +8,7 @@ use Rattle.request.specs.declared.Request.{Request}
 use Rattle.request.specs.declared.Request.the-variants.{Enrol, Establish, JoinStaff, LeaveStaff, JoinOutsider, LeaveOutsider, Add, Remove, Import, Merge, Disband, OpenInRoom, OpenInHouse, OpenReadOnly, Read, Update, Create, Kill, TakeBack}
 use Rattle.request.proofs.Absurd.{differ}
 use Rattle.records.specs.House.{House}
+use Rattle.records.specs.declared.Rule.{Rule}
 use Rattle.effects.specs.declared.Change.{Change}
 use Rattle.log.specs.Log.{pushed, popped}
 use Rattle.judge.specs.Kinds.{grantOf}
@@ -70,9 +71,9 @@ kept-change q k = record { no-read = λ r. no-pass k (read-passes r); no-take-ba
     no-undo (inr e) p = differ cc
 
 -- ---- at any desk
-module _ (d : Desk House Change) (q : Request) where
+module _ (rule : Rule) (d : Desk House Change) (q : Request) where
   abbrev so : Outcome House Change
-  so = step deskRules d q
+  so = step (deskRules rule) d q
 
   granted-told : {o : Outcome House Change} → so ≡ o → grants (so .answer) ≡ grants (o .answer)
   granted-told s = ap (λ (o : Outcome House Change). grants (o .answer)) s
@@ -81,13 +82,13 @@ module _ (d : Desk House Change) (q : Request) where
   record Made : Type 0 where
     number : ℕ
     last : ℕ
-    desk : so .desk ≡ keepChange deskRules d (changeOf q number) last
+    desk : so .desk ≡ keepChange (deskRules rule) d (changeOf q number) last
     given : number ≡ numberIn (so .answer)
 
   made-so : grants (so .answer) ≡ true → IsChange q → Made
-  made-so g c = go (change-kept q c) (way d q)
+  made-so g c = go (change-kept q c) (way rule d q)
     where
-      go : Kept (grantOf q) → Way d q so → Made
+      go : Kept (grantOf q) → Way rule d q so → Made
       go e (by-rule r k s) = clash g (granted-told s)
       go e (no-number a k l s) = clash g (granted-told s)
       go e (no-change a k l s) = clash g (granted-told s)
@@ -112,18 +113,18 @@ module _ (d : Desk House Change) (q : Request) where
   pub every-grant-kept : grants (so .answer) ≡ true → IsChange q → so .desk .log ≡ pushed (d .log) (changeOf q (numberIn (so .answer)))
   every-grant-kept g c =
       let m = made-so g c in
-      ap (λ (e : Desk House Change). e .log) (m .desk) ∙ log-after deskRules d (changeOf q (m .number)) (m .last)
+      ap (λ (e : Desk House Change). e .log) (m .desk) ∙ log-after (deskRules rule) d (changeOf q (m .number)) (m .last)
       ∙ ap (λ (n : ℕ). pushed (d .log) (changeOf q n)) (m .given)
 
   -- a Read, and whatever was refused, changes nothing at all
   pub idle-stays : Idle q (so .answer) → so .desk ≡ d
-  idle-stays (refused n e) = refusal d q n e .unchanged
-  idle-stays (reads r) = go (read-passes r) (way d q)
+  idle-stays (refused n e) = refusal rule d q n e .unchanged
+  idle-stays (reads r) = go (read-passes r) (way rule d q)
     where
       same : {o : Outcome House Change} → so ≡ o → so .desk ≡ o .desk
       same s = ap (λ (o : Outcome House Change). o .desk) s
 
-      go : grantOf q ≡ Pass → Way d q so → so .desk ≡ d
+      go : grantOf q ≡ Pass → Way rule d q so → so .desk ≡ d
       go p (by-rule r k s) = same s
       go p (no-number a k l s) = same s
       go p (no-change a k l s) = same s
@@ -133,28 +134,28 @@ module _ (d : Desk House Change) (q : Request) where
       go p (back a k n t) = differ cc
 
 -- a granted Take back takes the newest kept change, and is not kept itself
-pub takes-newest : (d : Desk House Change) (u : ℕ) → grants (step deskRules d (TakeBack u) .answer) ≡ true → TakenBack deskRules d (step deskRules d (TakeBack u))
-takes-newest d u g = go (way d (TakeBack u))
+pub takes-newest : (rule : Rule) (d : Desk House Change) (u : ℕ) → grants (step (deskRules rule) d (TakeBack u) .answer) ≡ true → TakenBack (deskRules rule) d (step (deskRules rule) d (TakeBack u))
+takes-newest rule d u g = go (way rule d (TakeBack u))
   where
-    go : Way d (TakeBack u) (step deskRules d (TakeBack u)) → TakenBack deskRules d (step deskRules d (TakeBack u))
-    go (by-rule r k s) = clash g (granted-told d (TakeBack u) s)
-    go (no-number a k l s) = clash g (granted-told d (TakeBack u) s)
-    go (no-change a k l s) = clash g (granted-told d (TakeBack u) s)
+    go : Way rule d (TakeBack u) (step (deskRules rule) d (TakeBack u)) → TakenBack (deskRules rule) d (step (deskRules rule) d (TakeBack u))
+    go (by-rule r k s) = clash g (granted-told rule d (TakeBack u) s)
+    go (no-number a k l s) = clash g (granted-told rule d (TakeBack u) s)
+    go (no-change a k l s) = clash g (granted-told rule d (TakeBack u) s)
     go (read a k s) = differ cc
     go (plain a k s) = differ cc
     go (with-number a k l s) = differ cc
     go (back a k n t) = t
 
-pub idle-run : (d : Desk House Change) (rs : List Request) → EachAnswered Idle rs (answers deskRules d rs) → run deskRules d rs ≡ d
-idle-run d [] e = refl
-idle-run d (q ∷ rs) e = idle-run (step deskRules d q .desk) rs (e .1) ∙ idle-stays d q (e .0)
+pub idle-run : (rule : Rule) (d : Desk House Change) (rs : List Request) → EachAnswered Idle rs (answers (deskRules rule) d rs) → run (deskRules rule) d rs ≡ d
+idle-run rule d [] e = refl
+idle-run rule d (q ∷ rs) e = idle-run rule (step (deskRules rule) d q .desk) rs (e .1) ∙ idle-stays rule d q (e .0)
 
 -- ---- "A Take back can't itself be taken back": the next one takes the change before
-pub back-for-good : (d : Desk House Change) (u : ℕ) (rs : List Request) (w : ℕ) → ThenBack d (TakeBack u) rs w
-    → BothBack d (step deskRules (atLast d (TakeBack u) rs) (TakeBack w))
-back-for-good d u rs w b =
-    let once = nextDesk d (TakeBack u) in
-    let p = left-so (takes-newest (atLast d (TakeBack u) rs) w (b .back)) ∙ ap less (idle-run once rs (b .idle) ∙ left-so (takes-newest d u (b .granted))) in
+pub back-for-good : (rule : Rule) (d : Desk House Change) (u : ℕ) (rs : List Request) (w : ℕ) → ThenBack rule d (TakeBack u) rs w
+    → BothBack rule d (step (deskRules rule) (atLast rule d (TakeBack u) rs) (TakeBack w))
+back-for-good rule d u rs w b =
+    let once = nextDesk rule d (TakeBack u) in
+    let p = left-so (takes-newest rule (atLast rule d (TakeBack u) rs) w (b .back)) ∙ ap less (idle-run rule once rs (b .idle) ∙ left-so (takes-newest rule d u (b .granted))) in
     record {
       log = ap (λ (e : Desk House Change). e .log) p;
       last = ap (λ (e : Desk House Change). e .last) p;
@@ -162,7 +163,7 @@ back-for-good d u rs w b =
     }
   where
     less : Desk House Change → Desk House Change
-    less e = record { base = e .base; log = popped (e .log); current = changed deskRules (e .base) (popped (e .log)); last = e .last }
+    less e = record { base = e .base; log = popped (e .log); current = changed (deskRules rule) (e .base) (popped (e .log)); last = e .last }
 
 -- ---- back as it stood
 -- at every reached desk the records are those of the base and all kept changes
@@ -177,15 +178,15 @@ reached-sound R start last qs = record { made = made; each = λ k. tt }
         ∙ ap (λ (s : _). changed R s (d .log)) (sym (a .base-is))
 
 -- a granted change, then requests that are refused or only read, then a granted Take back: the records are those before the change; the number stays
-pub back-as-it-stood : (h : House) (last : ℕ) (before : List Request) (q : Request) (rs : List Request) (u : ℕ) → IsChange q → ThenBack (reachedDesk h last before) q rs u
-    → AsItStood (reachedDesk h last before) q (step deskRules (atLast (reachedDesk h last before) q rs) (TakeBack u))
-back-as-it-stood h last before q rs u c b =
-    let stood = reachedDesk h last before in
-    let t = takes-newest (atLast stood q rs) u (b .back) in
-    let m = made-so stood q (b .granted) c in
-    let same = idle-run (nextDesk stood q) rs (b .idle) in
+pub back-as-it-stood : (rule : Rule) (h : House) (last : ℕ) (before : List Request) (q : Request) (rs : List Request) (u : ℕ) → IsChange q → ThenBack rule (reachedDesk rule h last before) q rs u
+    → AsItStood rule (reachedDesk rule h last before) q (step (deskRules rule) (atLast rule (reachedDesk rule h last before) q rs) (TakeBack u))
+back-as-it-stood rule h last before q rs u c b =
+    let stood = reachedDesk rule h last before in
+    let t = takes-newest rule (atLast rule stood q rs) u (b .back) in
+    let m = made-so rule stood q (b .granted) c in
+    let same = idle-run rule (nextDesk rule stood q) rs (b .idle) in
     record {
-      records = t .records ∙ ap (lessNewest deskRules) (same ∙ m .desk)
-          ∙ keep-back deskRules (λ _. Unit {0}) stood (reached-sound deskRules h last before) (changeOf q (m .number)) (m .last);
+      records = t .records ∙ ap (lessNewest (deskRules rule)) (same ∙ m .desk)
+          ∙ keep-back (deskRules rule) (λ _. Unit {0}) stood (reached-sound (deskRules rule) h last before) (changeOf q (m .number)) (m .last);
       number = t .last ∙ ap (λ (e : Desk House Change). e .last) same;
     }

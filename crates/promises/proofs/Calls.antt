@@ -12,6 +12,7 @@ use Rattle.request.specs.Framing.{seriesOf}
 use Rattle.request.specs.declared.Request.{Request}
 use Rattle.records.specs.Lists.{all}
 use Rattle.records.specs.House.{House, emptyHouse}
+use Rattle.records.specs.declared.Rule.{Rule}
 use Rattle.counter.specs.Numbers.{top}
 use Rattle.history.specs.Machine.{opened, step, run, answers}
 use Rattle.history.specs.Desk.{deskRules}
@@ -33,23 +34,23 @@ use Rattle.promises.proofs.Seen.{given-once, live-made}
 use Rattle.promises.proofs.Demands.{by-the-book, by-the-answers, rising, no-change-left, newest-goes}
 
 -- ---- of any requests that fit their bytes
-pub of-requests : (h : House) (last : ℕ) → rules h last ≡ true → (qs : List Request) → all fits qs ≡ true → Promised h last qs (run deskRules (opened h last) qs)
-of-requests h last m qs fit = record {
-  by-the-book = by-the-book h last qs;
-  by-the-answers = by-the-answers h last qs;
-  rising = rising h last qs;
-  no-change-left = λ u a z. no-change-left h last qs u a z;
-  newest-goes = λ u a n. newest-goes h last qs u a n;
-  back-as-it-stood = λ q rs u c b. back-as-it-stood h last qs q rs u c b;
-  given-once = given-once h last qs;
-  live-made = live-made h last m qs;
-  meets = reached h last m qs fit;
+pub of-requests : (rule : Rule) (h : House) (last : ℕ) → rules h last ≡ true → (qs : List Request) → all fits qs ≡ true → Promised rule h last qs (run (deskRules rule) (opened h last) qs)
+of-requests rule h last m qs fit = record {
+  by-the-book = by-the-book rule h last qs;
+  by-the-answers = by-the-answers rule h last qs;
+  rising = rising rule h last qs;
+  no-change-left = λ u a z. no-change-left rule h last qs u a z;
+  newest-goes = λ u a n. newest-goes rule h last qs u a n;
+  back-as-it-stood = λ q rs u c b. back-as-it-stood rule h last qs q rs u c b;
+  given-once = given-once rule h last qs;
+  live-made = live-made rule h last m qs;
+  meets = reached rule h last m qs fit;
 }
 
 -- ---- of any calls of the batch
-run-on : (d : State) (ps qs : List Request) → run deskRules d (ps ++ qs) ≡ run deskRules (run deskRules d ps) qs
-run-on d [] qs = refl
-run-on d (p ∷ ps) qs = run-on (step deskRules d p .desk) ps qs
+run-on : (rule : Rule) (d : State) (ps qs : List Request) → run (deskRules rule) d (ps ++ qs) ≡ run (deskRules rule) (run (deskRules rule) d ps) qs
+run-on rule d [] qs = refl
+run-on rule d (p ∷ ps) qs = run-on rule (step (deskRules rule) d p .desk) ps qs
 
 all-on : (ps qs : List Request) → all fits ps ≡ true → all fits qs ≡ true → all fits (ps ++ qs) ≡ true
 all-on [] qs a b = b
@@ -60,46 +61,46 @@ all-on (p ∷ ps) qs a b = go (fits p) a (λ t. all-on ps qs t b)
     go false e on = e
 
 -- a desk that calls lead to is the one that the requests which they took lead to, and all of these fit
-pub calls-run : {d d′ : State} {cs : List Call} → Calls d cs d′ → d′ ≡ run deskRules d (takenIn d cs)
-calls-run none = refl
-calls-run {d} {d′} (then {d₁ = d₁} {cs = cs} c bytes b more) =
-    let qs : List Request = taken d (c .requests) (roomOf c) in
-    calls-run more ∙ ap (λ (x : State). run deskRules x (takenIn x cs)) (desk-runs b) ∙ sym (run-on d qs (takenIn (run deskRules d qs) cs))
+pub calls-run : {rule : Rule} {d d′ : State} {cs : List Call} → Calls rule d cs d′ → d′ ≡ run (deskRules rule) d (takenIn rule d cs)
+calls-run {rule} none = refl
+calls-run {rule} {d} {d′} (then {d₁ = d₁} {cs = cs} c bytes b more) =
+    let qs : List Request = taken rule d (c .requests) (roomOf c) in
+    calls-run more ∙ ap (λ (x : State). run (deskRules rule) x (takenIn rule x cs)) (desk-runs b) ∙ sym (run-on rule d qs (takenIn rule (run (deskRules rule) d qs) cs))
 
-pub calls-fit : {d d′ : State} {cs : List Call} → Calls d cs d′ → all fits (takenIn d cs) ≡ true
-calls-fit none = refl
-calls-fit {d} (then {cs = cs} c bytes b more) =
-    all-on (taken d (c .requests) (roomOf c)) _ (taken-fit (c .requests) bytes (roomFor (roomOf c) (answers deskRules d (seriesOf (c .requests) .requests))))
-    (subst (λ (x : State). all fits (takenIn x cs) ≡ true) (desk-runs b) (calls-fit more))
+pub calls-fit : {rule : Rule} {d d′ : State} {cs : List Call} → Calls rule d cs d′ → all fits (takenIn rule d cs) ≡ true
+calls-fit {rule} none = refl
+calls-fit {rule} {d} (then {cs = cs} c bytes b more) =
+    all-on (taken rule d (c .requests) (roomOf c)) _ (taken-fit (c .requests) bytes (roomFor (roomOf c) (answers (deskRules rule) d (seriesOf (c .requests) .requests))))
+    (subst (λ (x : State). all fits (takenIn rule x cs) ≡ true) (desk-runs b) (calls-fit more))
 
-pub of-calls : (h : House) (last : ℕ) → rules h last ≡ true → {cs : List Call} {d : State} → Calls (opened h last) cs d → Promised h last (takenIn (opened h last) cs) d
-of-calls h last m {cs} {d} c =
-    subst (Promised h last (takenIn (opened h last) cs)) (sym (calls-run c)) (of-requests h last m (takenIn (opened h last) cs) (calls-fit c))
+pub of-calls : (rule : Rule) (h : House) (last : ℕ) → rules h last ≡ true → {cs : List Call} {d : State} → Calls rule (opened h last) cs d → Promised rule h last (takenIn rule (opened h last) cs) d
+of-calls rule h last m {cs} {d} c =
+    subst (Promised rule h last (takenIn rule (opened h last) cs)) (sym (calls-run c)) (of-requests rule h last m (takenIn rule (opened h last) cs) (calls-fit c))
 
 -- ---- of any input of the program, whatever it opened with: its answers are those of the requests that the input is cut into
-pub of-input : (h : House) (last : ℕ) → rules h last ≡ true → (input : List ℕ) → Bytes input
-    → Promised h last (seriesOf input .requests) (run deskRules (opened h last) (seriesOf input .requests))
-of-input h last m input bytes =
+pub of-input : (rule : Rule) (h : House) (last : ℕ) → rules h last ≡ true → (input : List ℕ) → Bytes input
+    → Promised rule h last (seriesOf input .requests) (run (deskRules rule) (opened h last) (seriesOf input .requests))
+of-input rule h last m input bytes =
     let qs : List Request = seriesOf input .requests in
-    of-requests h last m qs (subst (λ (l : List Request). all fits l ≡ true) (take-all (length qs) qs (omega arith)) (taken-fit input bytes (length qs)))
+    of-requests rule h last m qs (subst (λ (l : List Request). all fits l ≡ true) (take-all (length qs) qs (omega arith)) (taken-fit input bytes (length qs)))
 
 -- ---- from an opening without records, with any last number: they meet the rules
-pub from-empty : (last : ℕ) → last ≤ top → {cs : List Call} {d : State} → Calls (opened emptyHouse last) cs d → Promised emptyHouse last (takenIn (opened emptyHouse last) cs) d
-from-empty last l = of-calls emptyHouse last (empty-meets last l)
+pub from-empty : (rule : Rule) (last : ℕ) → last ≤ top → {cs : List Call} {d : State} → Calls rule (opened emptyHouse last) cs d → Promised rule emptyHouse last (takenIn rule (opened emptyHouse last) cs) d
+from-empty rule last l = of-calls rule emptyHouse last (empty-meets last l)
 
-pub input-from-empty : (last : ℕ) → last ≤ top → (input : List ℕ) → Bytes input
-    → Promised emptyHouse last (seriesOf input .requests) (run deskRules (opened emptyHouse last) (seriesOf input .requests))
-input-from-empty last l = of-input emptyHouse last (empty-meets last l)
+pub input-from-empty : (rule : Rule) (last : ℕ) → last ≤ top → (input : List ℕ) → Bytes input
+    → Promised rule emptyHouse last (seriesOf input .requests) (run (deskRules rule) (opened emptyHouse last) (seriesOf input .requests))
+input-from-empty rule last l = of-input rule emptyHouse last (empty-meets last l)
 
 -- ---- from any image: what opens meets the rules, and a refused image opens the empty desk with last number 0
 opened-meets : (b : List ℕ) (a : Opening) → openedBy b .answer ≡ a → keeps (openedBy b .now) ≡ true
 opened-meets b Opening.Opened e = fine b .0 e .0
 opened-meets b (Opening.Refused n) e = subst (λ (s : Saved). keeps s ≡ true) (sym (fine b .1 n e)) (empty-meets 0 (omega arith))
 
-pub from-image : (b : List ℕ) {cs : List Call} {d : State} → Calls (deskBy b .desk) cs d
-    → Promised (openedBy b .now .house) (openedBy b .now .last) (takenIn (deskBy b .desk) cs) d
-from-image b = of-calls (openedBy b .now .house) (openedBy b .now .last) (opened-meets b (openedBy b .answer) refl)
+pub from-image : (rule : Rule) (b : List ℕ) {cs : List Call} {d : State} → Calls rule (deskBy b .desk) cs d
+    → Promised rule (openedBy b .now .house) (openedBy b .now .last) (takenIn rule (deskBy b .desk) cs) d
+from-image rule b = of-calls rule (openedBy b .now .house) (openedBy b .now .last) (opened-meets b (openedBy b .answer) refl)
 
-pub input-from-image : (b input : List ℕ) → Bytes input
-    → Promised (openedBy b .now .house) (openedBy b .now .last) (seriesOf input .requests) (run deskRules (deskBy b .desk) (seriesOf input .requests))
-input-from-image b = of-input (openedBy b .now .house) (openedBy b .now .last) (opened-meets b (openedBy b .answer) refl)
+pub input-from-image : (rule : Rule) (b input : List ℕ) → Bytes input
+    → Promised rule (openedBy b .now .house) (openedBy b .now .last) (seriesOf input .requests) (run (deskRules rule) (deskBy b .desk) (seriesOf input .requests))
+input-from-image rule b = of-input rule (openedBy b .now .house) (openedBy b .now .last) (opened-meets b (openedBy b .answer) refl)

@@ -6,6 +6,7 @@ use mathlib.Core.List.{List}
 use lib.ListN.{length}
 use Rattle.request.specs.declared.Request.{Request}
 use Rattle.records.specs.House.{House, view, emptyHouse}
+use Rattle.records.specs.declared.Rule.{Rule}
 use Rattle.effects.specs.declared.Change.{Change}
 use Rattle.reader.specs.Reading.{Saved, blank, Taken, stopped, walked}
 use Rattle.reader.specs.declared.Walk.{Walk}
@@ -77,22 +78,22 @@ one-outcome d₁ d₂ r s p q =
     (ap (λ (o : Outcome House Change). o .desk) (determined p q), ap (λ (o : Outcome House Change). o .answer) (determined p q))
 
 -- two results of history::act: one-acted
-pub one-acted : (d : State) (request : Request) (ruling : Ruling) (d₁ d₂ : State) (r s : Answer)
-    → outcome d₁ r ≡ ruled deskRules d (verdictOf request ruling) → outcome d₂ s ≡ ruled deskRules d (verdictOf request ruling) → (d₁ ≡ d₂) × (r ≡ s)
-one-acted d request ruling d₁ d₂ r s p q = one-outcome d₁ d₂ r s p q
+pub one-acted : (rule : Rule) (d : State) (request : Request) (ruling : Ruling) (d₁ d₂ : State) (r s : Answer)
+    → outcome d₁ r ≡ ruled (deskRules rule) d (verdictOf request ruling) → outcome d₂ s ≡ ruled (deskRules rule) d (verdictOf request ruling) → (d₁ ≡ d₂) × (r ≡ s)
+one-acted rule d request ruling d₁ d₂ r s p q = one-outcome d₁ d₂ r s p q
 
 -- two results of history::take: one-taken
-pub one-taken : (d : State) (request : Request) (d₁ d₂ : State) (r s : Answer)
-    → outcome d₁ r ≡ step deskRules d request → outcome d₂ s ≡ step deskRules d request → (d₁ ≡ d₂) × (r ≡ s)
-one-taken d request d₁ d₂ r s p q = one-outcome d₁ d₂ r s p q
+pub one-taken : (rule : Rule) (d : State) (request : Request) (d₁ d₂ : State) (r s : Answer)
+    → outcome d₁ r ≡ step (deskRules rule) d request → outcome d₂ s ≡ step (deskRules rule) d request → (d₁ ≡ d₂) × (r ≡ s)
+one-taken rule d request d₁ d₂ r s p q = one-outcome d₁ d₂ r s p q
 
 -- two results of batch::run: one-run
-pub one-run : (d : State) (requests answers : List ℕ) (place : ℕ) (d₁ d₂ : State) (r s : Ran) (answers₁ answers₂ : List ℕ)
-    → Batched d requests answers place d₁ r answers₁ → Batched d requests answers place d₂ s answers₂ → (d₁ ≡ d₂) × ((r ≡ s) × (answers₁ ≡ answers₂))
-one-run d requests answers place d₁ d₂ r s answers₁ answers₂ p q = one-result p q
+pub one-run : (rule : Rule) (d : State) (requests answers : List ℕ) (place : ℕ) (d₁ d₂ : State) (r s : Ran) (answers₁ answers₂ : List ℕ)
+    → Batched rule d requests answers place d₁ r answers₁ → Batched rule d requests answers place d₂ s answers₂ → (d₁ ≡ d₂) × ((r ≡ s) × (answers₁ ≡ answers₂))
+one-run rule d requests answers place d₁ d₂ r s answers₁ answers₂ p q = one-result p q
 
 -- two results of batch::run_desk: one-ran-desk
-pub one-ran-desk : (d : State) (requests answers : List ℕ) (place : ℕ) (r s : RanDesk) (answers₁ answers₂ : List ℕ)
-    → Batched d requests answers place (shownOf (r .desk)) (r .ran) answers₁ → Batched d requests answers place (shownOf (s .desk)) (s .ran) answers₂
+pub one-ran-desk : (rule : Rule) (d : State) (requests answers : List ℕ) (place : ℕ) (r s : RanDesk) (answers₁ answers₂ : List ℕ)
+    → Batched rule d requests answers place (shownOf (r .desk)) (r .ran) answers₁ → Batched rule d requests answers place (shownOf (s .desk)) (s .ran) answers₂
     → (shownOf (r .desk) ≡ shownOf (s .desk)) × ((r .ran ≡ s .ran) × (answers₁ ≡ answers₂))
-one-ran-desk d requests answers place r s answers₁ answers₂ p q = one-result p q
+one-ran-desk rule d requests answers place r s answers₁ answers₂ p q = one-result p q

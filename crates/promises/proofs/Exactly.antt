@@ -4,6 +4,7 @@ use mathlib.Core.Bool.{true}
 use Rattle.request.specs.declared.Request.{Request}
 use Rattle.request.proofs.Absurd.{differ}
 use Rattle.records.specs.House.{House}
+use Rattle.records.specs.declared.Rule.{Rule}
 use Rattle.effects.specs.declared.Change.{Change}
 use Rattle.judge.specs.Kinds.{grantOf}
 use Rattle.judge.proofs.Order.{granted-exactly, grant-is-none}
@@ -14,18 +15,18 @@ use Rattle.promises.specs.Grants.{grants, Allowed, GrantedExactly, grant
 use Rattle.rules.proofs.Bools.{clash}
 use Rattle.promises.proofs.Ways.{Way, by-rule, no-number, no-change, read, plain, with-number, back, way}
 
-module _ (d : Desk House Change) (q : Request) where
+module _ (rule : Rule) (d : Desk House Change) (q : Request) where
   abbrev answer : Answer
-  answer = step deskRules d q .answer
+  answer = step (deskRules rule) d q .answer
 
   -- what an equation with the outcome says of the answer
-  told : {o : Outcome House Change} → step deskRules d q ≡ o → grants answer ≡ grants (o .answer)
+  told : {o : Outcome House Change} → step (deskRules rule) d q ≡ o → grants answer ≡ grants (o .answer)
   told s = ap (λ (o : Outcome House Change). grants (o .answer)) s
 
-  pub exactly : GrantedExactly d q answer
-  exactly = record { granted-allowed = λ g. only-then g (way d q); allowed-granted = λ a. always-then a (way d q) }
+  pub exactly : GrantedExactly rule d q answer
+  exactly = record { granted-allowed = λ g. only-then g (way rule d q); allowed-granted = λ a. always-then a (way rule d q) }
     where
-      only-then : grants answer ≡ true → Way d q (step deskRules d q) → Allowed d q
+      only-then : grants answer ≡ true → Way rule d q (step (deskRules rule) d q) → Allowed rule d q
       only-then g (by-rule r e s) = clash g (told s)
       only-then g (no-number a k l s) = clash g (told s)
       only-then g (no-change a k l s) = clash g (told s)
@@ -34,8 +35,8 @@ module _ (d : Desk House Change) (q : Request) where
       only-then g (with-number a k l s) = record { conditions = a; number-left = λ _. l; change-left = λ e. differ cc }
       only-then g (back a k l t) = record { conditions = a; number-left = λ e. differ cc; change-left = λ _. l }
 
-      always-then : Allowed d q → Way d q (step deskRules d q) → grants answer ≡ true
-      always-then w (by-rule r e s) = absurd (grant-is-none q r (sym (granted-exactly (d .current) q .1 (w .conditions)) ∙ e))
+      always-then : Allowed rule d q → Way rule d q (step (deskRules rule) d q) → grants answer ≡ true
+      always-then w (by-rule r e s) = absurd (grant-is-none q r (sym (granted-exactly rule (d .current) q .1 (w .conditions)) ∙ e))
       always-then w (no-number a k l s) = absurd (w .number-left k l)
       always-then w (no-change a k l s) = absurd (w .change-left k l)
       always-then w (read a k s) = told s
@@ -45,9 +46,9 @@ module _ (d : Desk House Change) (q : Request) where
 
   -- 81 and the next number for a kind that gets one, else 80
   pub which-grant : grants answer ≡ true → answer ≡ grantAfter (d .last) (grantOf q)
-  which-grant g = go (way d q)
+  which-grant g = go (way rule d q)
     where
-      go : Way d q (step deskRules d q) → answer ≡ grantAfter (d .last) (grantOf q)
+      go : Way rule d q (step (deskRules rule) d q) → answer ≡ grantAfter (d .last) (grantOf q)
       go (by-rule r e s) = clash g (told s)
       go (no-number a k l s) = clash g (told s)
       go (no-change a k l s) = clash g (told s)

@@ -4,6 +4,7 @@ use mathlib.Core.Path.{_≡_, refl, sym, ap, _∙_}
 use mathlib.Core.Bool.{Bool, true, false}
 use mathlib.Core.List.{List, [], _∷_}
 use Rattle.records.specs.House.{House}
+use Rattle.records.specs.declared.Rule.{Rule}
 use Rattle.request.specs.declared.Request.{Request}
 use Rattle.reasons.specs.Asking.{Line, _unless_, _because_, AllHold, none, more}
 use Rattle.reasons.proofs.Order.{Verdict, grant, refusal, verdict}
@@ -41,10 +42,10 @@ pub record Granted (offered : Ruling) (lines : List Line) (g : Ruling) : Type 0 
   pub hold : Hold lines
 
 -- a granted request: all conditions of its kind hold, and the grant is the kind's own
-pub conditions : (h : House) (q : Request) (g : Ruling) → isGrant g ≡ true → rulingOf h q ≡ g → Granted (grantOf q) (linesOf h q) g
+pub conditions : (rule : Rule) (h : House) (q : Request) (g : Ruling) → isGrant g ≡ true → rulingOf rule h q ≡ g → Granted (grantOf q) (linesOf rule h q) g
 unfolding rulingOf
-conditions h q g t e = go (verdict (linesOf h q))
+conditions rule h q g t e = go (verdict (linesOf rule h q))
   where
-    go : Verdict (linesOf h q) → Granted (grantOf q) (linesOf h q) g
+    go : Verdict (linesOf rule h q) → Granted (grantOf q) (linesOf rule h q) g
     go (grant a) = record { given = sym (all-granted (grantOf q) a) ∙ e; hold = each-holds a }
     go (refusal r f) = clash t (ap isGrant (sym e ∙ first-refused (grantOf q) f))

@@ -11,6 +11,7 @@ use borrow.Author.Tests.{eqb-true, eq-eqb, leb-true, ltb-true, not-true}
 use Rattle.records.specs.Places.{has}
 use Rattle.records.specs.House.{House, house, staff, outsider, user, script}
 use Rattle.records.specs.declared.User.{User}
+use Rattle.records.specs.declared.Rule.{Rule}
 use Rattle.request.specs.declared.Request.{Request}
 use Rattle.request.specs.declared.Request.the-variants.{Enrol, Establish, JoinStaff, LeaveStaff, JoinOutsider, LeaveOutsider, Add, Remove, Import, Merge, Disband, OpenInRoom, OpenInHouse, OpenReadOnly, Read, Update, Create, Kill, TakeBack}
 use Rattle.effects.specs.Effects.{effect}
@@ -89,9 +90,9 @@ Next h last n q Keep = Rules (effect h n q) last
 Next h last n q KeepNumbered = last < 4294967295 → Rules (effect h (last + 1) q) (last + 1)
 Next h last n q Ruling.TakeBack = Unit {0}
 
-module _ (h : House) (last : ℕ) (R : Rules h last) where
+module _ (rule : Rule) (h : House) (last : ℕ) (R : Rules h last) where
   -- where f k says that condition k of the kind holds
-  next : (n : ℕ) (q : Request) → fits q ≡ true → Hold (linesOf h q) → Next h last n q (grantOf q)
+  next : (n : ℕ) (q : Request) → fits q ≡ true → Hold (linesOf rule h q) → Next h last n q (grantOf q)
   unfolding enrolWhere establishLines pairNumbers pairLed draftLed importLines disbandLines opens covers asScript alike draftAsked createLines killLines
   next n (Enrol u new sort level c admin) w f =
       let s = sort-of sort (f 3) in
@@ -126,21 +127,21 @@ module _ (h : House) (last : ℕ) (R : Rules h last) where
   next n (TakeBack u) w f = tt
 
 -- ---- the theorems, on the test of the record rules
-module _ (h : House) (last : ℕ) (meets : rules h last ≡ true) where
+module _ (rule : Rule) (h : House) (last : ℕ) (meets : rules h last ≡ true) where
   R : Rules h last
   R = rules-are h last .says meets
 
   -- "Kept changes": a granted request that takes no draft number keeps the rules, whatever n
-  pub kept : (q : Request) → fits q ≡ true → rulingOf h q ≡ Keep → (n : ℕ) → rules (effect h n q) last ≡ true
+  pub kept : (q : Request) → fits q ≡ true → rulingOf rule h q ≡ Keep → (n : ℕ) → rules (effect h n q) last ≡ true
   kept q w e n =
-      let g = conditions h q Keep refl e in
-      rules-are (effect h n q) last .shown (subst (Next h last n q) (g .given) (next h last R n q w (g .hold)))
+      let g = conditions rule h q Keep refl e in
+      rules-are (effect h n q) last .shown (subst (Next h last n q) (g .given) (next rule h last R n q w (g .hold)))
 
   -- "granted with a draft number (09, 14, 15)": such a request keeps the rules with the next number, which is then the last one issued
-  pub kept-numbered : (q : Request) → fits q ≡ true → rulingOf h q ≡ KeepNumbered → last < 4294967295 → rules (effect h (last + 1) q) (last + 1) ≡ true
+  pub kept-numbered : (q : Request) → fits q ≡ true → rulingOf rule h q ≡ KeepNumbered → last < 4294967295 → rules (effect h (last + 1) q) (last + 1) ≡ true
   kept-numbered q w e l =
-      let g = conditions h q KeepNumbered refl e in
-      rules-are (effect h (last + 1) q) (last + 1) .shown (subst (Next h last 0 q) (g .given) (next h last R 0 q w (g .hold)) l)
+      let g = conditions rule h q KeepNumbered refl e in
+      rules-are (effect h (last + 1) q) (last + 1) .shown (subst (Next h last 0 q) (g .given) (next rule h last R 0 q w (g .hold)) l)
 
   -- "the counter stays": records that met the rules once meet them with every later counter
   pub later : (next : ℕ) → last ≤ next → next ≤ 4294967295 → rules h next ≡ true

@@ -10,6 +10,7 @@ use Rattle.request.specs.declared.Request.{Request}
 use Rattle.request.proofs.Absurd.{differ}
 use Rattle.records.specs.Lists.{any, all}
 use Rattle.records.specs.House.{House}
+use Rattle.records.specs.declared.Rule.{Rule}
 use Rattle.effects.specs.declared.Change.{Change}
 use Rattle.judge.specs.Table.{refusals}
 use Rattle.reasons.specs.Order.{order, isRefusal}
@@ -41,26 +42,26 @@ in-order q n (no-change e k) = ap isRefusal e
 small : (n : ℕ) → isRefusal n ≡ true → n ≤ 16
 small n r = leb-true n 16 (of-all (λ m. leb m 16) n order r refl)
 
-module _ (d : Desk House Change) (q : Request) (n : ℕ) where
+module _ (rule : Rule) (d : Desk House Change) (q : Request) (n : ℕ) where
   -- the remainder by which the byte is defined takes nothing away
   refused-with : {o : Outcome House Change} → Listed q n → o .desk ≡ d → Refusal d q o n
   refused-with l same =
       let r = in-order q n l in
       record { listed = l; in-order = r; byte = ap (λ (x : ℕ). x ∷ []) (omega (arith, small n r)); unchanged = same }
 
-  pub refusal : step deskRules d q .answer ≡ Refused n → Refusal d q (step deskRules d q) n
-  refusal e = go (way d q)
+  pub refusal : step (deskRules rule) d q .answer ≡ Refused n → Refusal d q (step (deskRules rule) d q) n
+  refusal e = go (way rule d q)
     where
-      given : {o : Outcome House Change} → step deskRules d q ≡ o → o .answer ≡ Refused n
+      given : {o : Outcome House Change} → step (deskRules rule) d q ≡ o → o .answer ≡ Refused n
       given s = sym (ap (λ (o : Outcome House Change). o .answer) s) ∙ e
 
-      left-so : {o : Outcome House Change} → step deskRules d q ≡ o → step deskRules d q .desk ≡ o .desk
+      left-so : {o : Outcome House Change} → step (deskRules rule) d q ≡ o → step (deskRules rule) d q .desk ≡ o .desk
       left-so s = ap (λ (o : Outcome House Change). o .desk) s
 
-      go : Way d q (step deskRules d q) → Refusal d q (step deskRules d q) n
+      go : Way rule d q (step (deskRules rule) d q) → Refusal d q (step (deskRules rule) d q) n
       go (by-rule r k s) =
           let z : r .number ≡ n = cc (given s) in
-          refused-with (in-row (subst (λ (m : ℕ). any (eqb m) (refusals q) ≡ true) z (refused-by-table (d .current) q r k))) (left-so s)
+          refused-with (in-row (subst (λ (m : ℕ). any (eqb m) (refusals q) ≡ true) z (refused-by-table rule (d .current) q r k))) (left-so s)
       go (Way.no-number a k l s) = let z : 11 ≡ n = cc (given s) in refused-with (no-number (sym z) k) (left-so s)
       go (Way.no-change a k l s) = let z : 12 ≡ n = cc (given s) in refused-with (no-change (sym z) k) (left-so s)
       go (read a k s) = let g = given s in differ cc
@@ -69,12 +70,12 @@ module _ (d : Desk House Change) (q : Request) (n : ℕ) where
       go (back a k l t) = let g : Granted ≡ Refused n = sym (t .answer) ∙ e in differ cc
 
 -- "13 is never written", nor 1 or 2 to a request
-to-request : (d : Desk House Change) (q : Request) → ToRequest (step deskRules d q .answer)
-to-request d q = record { not-1 = λ e. none 1 e refl; not-2 = λ e. none 2 e refl; not-13 = λ e. none 13 e refl }
+to-request : (rule : Rule) (d : Desk House Change) (q : Request) → ToRequest (step (deskRules rule) d q .answer)
+to-request rule d q = record { not-1 = λ e. none 1 e refl; not-2 = λ e. none 2 e refl; not-13 = λ e. none 13 e refl }
   where
-    none : (n : ℕ) → step deskRules d q .answer ≡ Refused n → isRefusal n ≡ false → ⊥
-    none n e f = clash (refusal d q n e .in-order) f
+    none : (n : ℕ) → step (deskRules rule) d q .answer ≡ Refused n → isRefusal n ≡ false → ⊥
+    none n e f = clash (refusal rule d q n e .in-order) f
 
-pub never-13 : (d : Desk House Change) (qs : List Request) → Each ToRequest (answers deskRules d qs)
-never-13 d [] = tt
-never-13 d (q ∷ qs) = (to-request d q, never-13 (step deskRules d q .desk) qs)
+pub never-13 : (rule : Rule) (d : Desk House Change) (qs : List Request) → Each ToRequest (answers (deskRules rule) d qs)
+never-13 rule d [] = tt
+never-13 rule d (q ∷ qs) = (to-request rule d q, never-13 rule (step (deskRules rule) d q .desk) qs)

@@ -7,6 +7,7 @@ use native.Mathlib.Omega.{arith}
 use Rattle.request.specs.declared.Request.{Request}
 use Rattle.records.specs.Lists.{all}
 use Rattle.records.specs.House.{House}
+use Rattle.records.specs.declared.Rule.{Rule}
 use Rattle.effects.specs.Effects.{applied}
 use Rattle.effects.specs.declared.Change.{Change}
 use Rattle.reasons.specs.Asking.{AllHold}
@@ -29,48 +30,48 @@ use Rattle.promises.proofs.Ways.{Way, by-rule, no-number, no-change, re
 abbrev Meets : ℕ → House → Type 0
 Meets last h = rules h last ≡ true
 
-abbrev Fine : Desk House Change → Type 0
-Fine d = Sound deskRules (Meets (d .last)) d
+abbrev Fine : Rule → Desk House Change → Type 0
+Fine rule d = Sound (deskRules rule) (Meets (d .last)) d
 
-module _ (d : Desk House Change) (S : Fine d) where
+module _ (rule : Rule) (d : Desk House Change) (S : Fine rule d) where
   meets : rules (d .current) (d .last) ≡ true
-  meets = now-holds deskRules (Meets (d .last)) d S
+  meets = now-holds (deskRules rule) (Meets (d .last)) d S
 
   below-top : d .last ≤ top
   below-top = rules-are (d .current) (d .last) .says meets .counter
 
-  steps : (q : Request) → fits q ≡ true → Fine (step deskRules d q .desk)
+  steps : (q : Request) → fits q ≡ true → Fine rule (step (deskRules rule) d q .desk)
   unfolding applied
-  steps q w = go (way d q)
+  steps q w = go (way rule d q)
     where
-      so : {o : Outcome House Change} → step deskRules d q ≡ o → Fine (o .desk) → Fine (step deskRules d q .desk)
-      so e f = subst (λ (o : Outcome House Change). Fine (o .desk)) (sym e) f
+      so : {o : Outcome House Change} → step (deskRules rule) d q ≡ o → Fine rule (o .desk) → Fine rule (step (deskRules rule) d q .desk)
+      so e f = subst (λ (o : Outcome House Change). Fine rule (o .desk)) (sym e) f
 
-      ruling : (g : Ruling) → grantOf q ≡ g → AllHold (linesOf (d .current) q) → rulingOf (d .current) q ≡ g
-      ruling g e a = granted-exactly (d .current) q .1 a ∙ e
+      ruling : (g : Ruling) → grantOf q ≡ g → AllHold (linesOf rule (d .current) q) → rulingOf rule (d .current) q ≡ g
+      ruling g e a = granted-exactly rule (d .current) q .1 a ∙ e
 
-      keeps : (c : Change) (n : ℕ) → d .last ≤ n → n ≤ top → rules (applied (d .current) c) n ≡ true → Fine (keepChange deskRules d c n)
+      keeps : (c : Change) (n : ℕ) → d .last ≤ n → n ≤ top → rules (applied (d .current) c) n ≡ true → Fine rule (keepChange (deskRules rule) d c n)
       keeps c n le fits-in next =
-          subst (λ (m : ℕ). Sound deskRules (Meets m) (keepChange deskRules d c n)) (sym (last-after deskRules d c n))
-          (sound-keep deskRules (Meets (d .last)) d S (Meets n) (λ h k. later h (d .last) k n le fits-in) c n next)
+          subst (λ (m : ℕ). Sound (deskRules rule) (Meets m) (keepChange (deskRules rule) d c n)) (sym (last-after (deskRules rule) d c n))
+          (sound-keep (deskRules rule) (Meets (d .last)) d S (Meets n) (λ h k. later rule h (d .last) k n le fits-in) c n next)
 
-      go : Way d q (step deskRules d q) → Fine (step deskRules d q .desk)
+      go : Way rule d q (step (deskRules rule) d q) → Fine rule (step (deskRules rule) d q .desk)
       go (by-rule r e s) = so s S
       go (no-number a k l s) = so s S
       go (no-change a k l s) = so s S
       go (read a k s) = so s S
-      go (plain a k s) = so s (keeps (changeOf q 0) (d .last) (omega arith) below-top (kept (d .current) (d .last) meets q w (ruling Keep k a) 0))
+      go (plain a k s) = so s (keeps (changeOf q 0) (d .last) (omega arith) below-top (kept rule (d .current) (d .last) meets q w (ruling Keep k a) 0))
       go (with-number a k n s) =
           let l : d .last < top = omega (arith, n, below-top) in
           so s (keeps (changeOf q (d .last + 1)) (d .last + 1) (omega arith) (omega arith)
-          (kept-numbered (d .current) (d .last) meets q w (ruling KeepNumbered k a) l))
-      go (back a k n t) = subst (λ (m : ℕ). Sound deskRules (Meets m) (step deskRules d q .desk)) (sym (t .last)) (sound-back deskRules (Meets (d .last)) d S t)
+          (kept-numbered rule (d .current) (d .last) meets q w (ruling KeepNumbered k a) l))
+      go (back a k n t) = subst (λ (m : ℕ). Sound (deskRules rule) (Meets m) (step (deskRules rule) d q .desk)) (sym (t .last)) (sound-back (deskRules rule) (Meets (d .last)) d S t)
 
-runs : (d : Desk House Change) → Fine d → (qs : List Request) → all fits qs ≡ true → Fine (run deskRules d qs)
-runs d S [] w = S
-runs d S (q ∷ qs) w = runs (step deskRules d q .desk) (steps d S q (left (fits q) (all fits qs) w)) qs (right (fits q) (all fits qs) w)
+runs : (rule : Rule) (d : Desk House Change) → Fine rule d → (qs : List Request) → all fits qs ≡ true → Fine rule (run (deskRules rule) d qs)
+runs rule d S [] w = S
+runs rule d S (q ∷ qs) w = runs rule (step (deskRules rule) d q .desk) (steps rule d S q (left (fits q) (all fits qs) w)) qs (right (fits q) (all fits qs) w)
 
 -- where the records and the last number that a desk opens with meet the rules, so do those that any requests lead to
-pub reached : (h : House) (last : ℕ) → rules h last ≡ true → (qs : List Request) → all fits qs ≡ true
-    → rules (reachedDesk h last qs .current) (reachedDesk h last qs .last) ≡ true
-reached h last m qs w = meets (reachedDesk h last qs) (runs (opened h last) (sound-opened deskRules (Meets last) h last m) qs w)
+pub reached : (rule : Rule) (h : House) (last : ℕ) → rules h last ≡ true → (qs : List Request) → all fits qs ≡ true
+    → rules (reachedDesk rule h last qs .current) (reachedDesk rule h last qs .last) ≡ true
+reached rule h last m qs w = meets rule (reachedDesk rule h last qs) (runs rule (opened h last) (sound-opened (deskRules rule) (Meets last) h last m) qs w)

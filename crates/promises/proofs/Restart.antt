@@ -10,6 +10,7 @@ use Rattle.request.specs.declared.Request.{Request}
 use Rattle.request.proofs.Absurd.{differ}
 use Rattle.records.specs.Lists.{all}
 use Rattle.records.specs.House.{House}
+use Rattle.records.specs.declared.Rule.{Rule}
 use Rattle.judge.specs.Kinds.{grantOf, rulingOf}
 use Rattle.judge.specs.declared.Ruling.{Ruling}
 use Rattle.judge.specs.declared.Ruling.the-variants.{Pass, Keep, KeepNumbered}
@@ -108,8 +109,8 @@ module _ {S C Q : Type 0} (R : Rulebook S C Q) where
       (λ i. b .same i ∷ run-alike (step R d q .desk) (step R e q .desk) (b .alike) qs (never .1) i)
 
 -- ---- this desk: only a take-back undoes
-never-undone : (q : Request) → (IsTakeBack q → ⊥) → (h : House) → deskRules .judge h q ≡ undo → ⊥
-never-undone q no-back h e = go (rulingOf h q) refl e
+never-undone : (rule : Rule) (q : Request) → (IsTakeBack q → ⊥) → (h : House) → deskRules rule .judge h q ≡ undo → ⊥
+never-undone rule q no-back h e = go (rulingOf rule h q) refl e
   where
     offered : grantOf q ≡ Ruling.TakeBack → ⊥
     offered e = by-kind (change-kept q (record { no-read = λ r. differ (let p = read-passes r in cc); no-take-back = no-back }))
@@ -118,32 +119,32 @@ never-undone q no-back h e = go (rulingOf h q) refl e
         by-kind (inl k) = differ cc
         by-kind (inr k) = differ cc
 
-    go : (r : Ruling) → rulingOf h q ≡ r → verdictOf q r ≡ undo → ⊥
+    go : (r : Ruling) → rulingOf rule h q ≡ r → verdictOf q r ≡ undo → ⊥
     go (Ruling.Refused r) k w = differ cc
     go Pass k w = differ cc
     go Keep k w = differ cc
     go KeepNumbered k w = differ cc
-    go Ruling.TakeBack k w = offered (conditions h q Ruling.TakeBack refl k .given)
+    go Ruling.TakeBack k w = offered (conditions rule h q Ruling.TakeBack refl k .given)
 
-each-never : (qs : List Request) → Each (λ q. IsTakeBack q → ⊥) qs → Each (λ q. (h : House) → deskRules .judge h q ≡ undo → ⊥) qs
-each-never [] e = tt
-each-never (q ∷ qs) e = (never-undone q (e .0), each-never qs (e .1))
+each-never : (rule : Rule) (qs : List Request) → Each (λ q. IsTakeBack q → ⊥) qs → Each (λ q. (h : House) → deskRules rule .judge h q ≡ undo → ⊥) qs
+each-never rule [] e = tt
+each-never rule (q ∷ qs) e = (never-undone rule q (e .0), each-never rule qs (e .1))
 
-module _ (h : House) (last : ℕ) (m : rules h last ≡ true) (qs : List Request) (fit : all fits qs ≡ true) where
+module _ (rule : Rule) (h : House) (last : ℕ) (m : rules h last ≡ true) (qs : List Request) (fit : all fits qs ≡ true) where
   abbrev now : State
-  now = reachedDesk h last qs
+  now = reachedDesk rule h last qs
 
-  opens : openedBy (savedAs now) ≡ accepted (saved (now .current) (now .last))
-  opens = saved-opens (saved (now .current) (now .last)) (reached h last m qs fit)
+  opens : openedBy (savedAs rule now) ≡ accepted (saved (now .current) (now .last))
+  opens = saved-opens (saved (now .current) (now .last)) (reached rule h last m qs fit)
 
-  pub restarts : Restarted last (answersFrom h last qs) now
+  pub restarts : Restarted rule last (answersFrom rule h last qs) now
   restarts =
-      let same : again now ≡ opened (now .current) (now .last) = ap (λ (o : Opens). opened (o .now .house) (o .now .last)) opens in
+      let same : again rule now ≡ opened (now .current) (now .last) = ap (λ (o : Opens). opened (o .now .house) (o .now .last)) opens in
       record {
         accepted = ap (λ (o : Opens). o .answer) opens;
         as-saved = same;
-        rising = λ rs. subst (λ (d : State). Rising last (numbers (answersFrom h last qs ++ answers deskRules d rs))) (sym same)
-            (rising-on deskRules (opened h last) qs (answers deskRules (opened (now .current) (now .last)) rs) (numbers-rise deskRules (now .current) (now .last) rs));
-        as-in-one-piece = λ rs none. ap (λ (d : State). answers deskRules d rs) same
-            ∙ run-alike deskRules (opened (now .current) (now .last)) now (record { records = refl; last-number = refl }) rs (each-never rs none);
+        rising = λ rs. subst (λ (d : State). Rising last (numbers (answersFrom rule h last qs ++ answers (deskRules rule) d rs))) (sym same)
+            (rising-on (deskRules rule) (opened h last) qs (answers (deskRules rule) (opened (now .current) (now .last)) rs) (numbers-rise (deskRules rule) (now .current) (now .last) rs));
+        as-in-one-piece = λ rs none. ap (λ (d : State). answers (deskRules rule) d rs) same
+            ∙ run-alike (deskRules rule) (opened (now .current) (now .last)) now (record { records = refl; last-number = refl }) rs (each-never rule rs none);
       }

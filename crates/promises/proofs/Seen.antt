@@ -15,6 +15,7 @@ use Rattle.records.specs.Places.{only}
 use Rattle.records.specs.declared.Draft.{Draft}
 use Rattle.records.specs.declared.Found.{Found}
 use Rattle.records.specs.declared.Found.the-variants.{At, Nothing}
+use Rattle.records.specs.declared.Rule.{Rule}
 use Rattle.effects.specs.Elements.{draftOf, placedAt, unplaced}
 use Rattle.effects.specs.Effects.{swept, lessOne, effect, applied}
 use Rattle.effects.specs.declared.Change.{Change}
@@ -59,9 +60,9 @@ once-given last (Numbered n ∷ l) r (suc i) zero m e f = let z : n ≡ m = cc i
 once-given last (Numbered n ∷ l) r (suc i) (suc j) m e f = ap suc (once-given n l (r .1) i j m e f)
 
 -- two answers of a run with the same number are one answer
-pub given-once : (h : House) (last : ℕ) (qs : List Request) (i j m : ℕ) → answerAt (answersFrom h last qs) i ≡ Numbered m → answerAt (answersFrom h last qs) j ≡ Numbered m
+pub given-once : (rule : Rule) (h : House) (last : ℕ) (qs : List Request) (i j m : ℕ) → answerAt (answersFrom rule h last qs) i ≡ Numbered m → answerAt (answersFrom rule h last qs) j ≡ Numbered m
     → i ≡ j
-given-once h last qs = once-given last (answersFrom h last qs) (rising h last qs)
+given-once rule h last qs = once-given last (answersFrom rule h last qs) (rising rule h last qs)
 
 -- ---- the drafts after a change: those before it, by number and script, or the one that it makes
 module _ (P : ℕ → ℕ → Type 0) where
@@ -121,13 +122,13 @@ makes-numbered q s (by-create x e) = rw e
 abbrev With : (ℕ → ℕ → Type 0) → Request → Answer → ℕ → ℕ → Type 0
 With P q a n s = P n s ⊎ ((a ≡ Numbered n) × Makes q s)
 
-step-seen : (P : ℕ → ℕ → Type 0) (d : Desk House Change) (q : Request) → Sound deskRules (Drafts P) d
-    → Sound deskRules (Drafts (With P q (step deskRules d q .answer))) (step deskRules d q .desk)
+step-seen : (rule : Rule) (P : ℕ → ℕ → Type 0) (d : Desk House Change) (q : Request) → Sound (deskRules rule) (Drafts P) d
+    → Sound (deskRules rule) (Drafts (With P q (step (deskRules rule) d q .answer))) (step (deskRules rule) d q .desk)
 unfolding applied
-step-seen P d q S = go (way d q)
+step-seen rule P d q S = go (way rule d q)
   where
     P′ : ℕ → ℕ → Type 0
-    P′ = With P q (step deskRules d q .answer)
+    P′ = With P q (step (deskRules rule) d q .answer)
 
     G′ : House → Type 0
     G′ = Drafts P′
@@ -135,61 +136,61 @@ step-seen P d q S = go (way d q)
     more : (h : House) → Drafts P h → G′ h
     more h e = each-imp (Of P) (Of P′) (h .drafts) (λ _ p. inl p) e
 
-    so : {o : Outcome House Change} → step deskRules d q ≡ o → Sound deskRules G′ (o .desk) → Sound deskRules G′ (step deskRules d q .desk)
-    so e f = subst (λ (o : Outcome House Change). Sound deskRules G′ (o .desk)) (sym e) f
+    so : {o : Outcome House Change} → step (deskRules rule) d q ≡ o → Sound (deskRules rule) G′ (o .desk) → Sound (deskRules rule) G′ (step (deskRules rule) d q .desk)
+    so e f = subst (λ (o : Outcome House Change). Sound (deskRules rule) G′ (o .desk)) (sym e) f
 
-    same : Sound deskRules G′ d
-    same = sound-more deskRules (Drafts P) d S G′ more
+    same : Sound (deskRules rule) G′ d
+    same = sound-more (deskRules rule) (Drafts P) d S G′ more
 
-    keeps : (n last : ℕ) → ((s : ℕ) → Makes q s → P′ n s) → Sound deskRules G′ (keepChange deskRules d (changeOf q n) last)
+    keeps : (n last : ℕ) → ((s : ℕ) → Makes q s → P′ n s) → Sound (deskRules rule) G′ (keepChange (deskRules rule) d (changeOf q n) last)
     keeps n last m =
-        sound-keep deskRules (Drafts P) d S G′ more (changeOf q n) last
-        (drafts-after P′ (d .current) n q (more (d .current) (now-holds deskRules (Drafts P) d S)) m)
+        sound-keep (deskRules rule) (Drafts P) d S G′ more (changeOf q n) last
+        (drafts-after P′ (d .current) n q (more (d .current) (now-holds (deskRules rule) (Drafts P) d S)) m)
 
-    go : Way d q (step deskRules d q) → Sound deskRules G′ (step deskRules d q .desk)
+    go : Way rule d q (step (deskRules rule) d q) → Sound (deskRules rule) G′ (step (deskRules rule) d q .desk)
     go (by-rule r e s) = so s same
     go (no-number a k l s) = so s same
     go (no-change a k l s) = so s same
     go (read a k s) = so s same
     go (plain a k s) = so s (keeps 0 (d .last) (λ x m. let z = makes-numbered q x m in differ cc))
     go (with-number a k l s) = so s (keeps (d .last + 1) (d .last + 1) (λ x m. inr (ap (λ (o : Outcome House Change). o .answer) s, m)))
-    go (back a k n t) = sound-back deskRules G′ d same t
+    go (back a k n t) = sound-back (deskRules rule) G′ d same t
 
 -- made by one of the requests qs at the desk d
-record MadeFrom (d : Desk House Change) (qs : List Request) (n s : ℕ) : Type 0 where
+record MadeFrom (rule : Rule) (d : Desk House Change) (qs : List Request) (n s : ℕ) : Type 0 where
   place : ℕ
-  answered : answerAt (answers deskRules d qs) place ≡ Numbered n
+  answered : answerAt (answers (deskRules rule) d qs) place ≡ Numbered n
   for-script : Makes (requestNo qs place) s
 
-abbrev Since : (ℕ → ℕ → Type 0) → Desk House Change → List Request → ℕ → ℕ → Type 0
-Since P d qs n s = P n s ⊎ MadeFrom d qs n s
+abbrev Since : Rule → (ℕ → ℕ → Type 0) → Desk House Change → List Request → ℕ → ℕ → Type 0
+Since rule P d qs n s = P n s ⊎ MadeFrom rule d qs n s
 
-run-seen : (P : ℕ → ℕ → Type 0) (d : Desk House Change) (qs : List Request) → Sound deskRules (Drafts P) d
-    → Sound deskRules (Drafts (Since P d qs)) (run deskRules d qs)
-run-seen P d [] S = sound-more deskRules (Drafts P) d S (Drafts (Since P d [])) (λ h e. each-imp (Of P) (Of (Since P d [])) (h .drafts) (λ _ p. inl p) e)
-run-seen P d (q ∷ qs) S =
-    sound-more deskRules (Drafts (Since P′ next qs)) (run deskRules next qs) (run-seen P′ next qs (step-seen P d q S)) (Drafts (Since P d (q ∷ qs)))
-    (λ h e. each-imp (Of (Since P′ next qs)) (Of (Since P d (q ∷ qs))) (h .drafts) (λ x k. earlier (x .number) (x .script) k) e)
+run-seen : (rule : Rule) (P : ℕ → ℕ → Type 0) (d : Desk House Change) (qs : List Request) → Sound (deskRules rule) (Drafts P) d
+    → Sound (deskRules rule) (Drafts (Since rule P d qs)) (run (deskRules rule) d qs)
+run-seen rule P d [] S = sound-more (deskRules rule) (Drafts P) d S (Drafts (Since rule P d [])) (λ h e. each-imp (Of P) (Of (Since rule P d [])) (h .drafts) (λ _ p. inl p) e)
+run-seen rule P d (q ∷ qs) S =
+    sound-more (deskRules rule) (Drafts (Since rule P′ next qs)) (run (deskRules rule) next qs) (run-seen rule P′ next qs (step-seen rule P d q S)) (Drafts (Since rule P d (q ∷ qs)))
+    (λ h e. each-imp (Of (Since rule P′ next qs)) (Of (Since rule P d (q ∷ qs))) (h .drafts) (λ x k. earlier (x .number) (x .script) k) e)
   where
     next : Desk House Change
-    next = step deskRules d q .desk
+    next = step (deskRules rule) d q .desk
 
     P′ : ℕ → ℕ → Type 0
-    P′ = With P q (step deskRules d q .answer)
+    P′ = With P q (step (deskRules rule) d q .answer)
 
-    earlier : (n s : ℕ) → Since P′ next qs n s → Since P d (q ∷ qs) n s
+    earlier : (n s : ℕ) → Since rule P′ next qs n s → Since rule P d (q ∷ qs) n s
     earlier n s (inl (inl p)) = inl p
     earlier n s (inl (inr m)) = inr (record { place = 0; answered = m .0; for-script = m .1 })
     earlier n s (inr m) = inr (record { place = suc (m .place); answered = m .answered; for-script = m .for-script })
 
 -- ---- the first k requests of a run: what was answered and made there was so in the whole run
-answered-before : (d : Desk House Change) (k : ℕ) (qs : List Request) (i v : ℕ) → answerAt (answers deskRules d (take k qs)) i ≡ Numbered v
-    → (i < k) × (answerAt (answers deskRules d qs) i ≡ Numbered v)
-answered-before d zero qs i v e = differ cc
-answered-before d (suc k) [] i v e = differ cc
-answered-before d (suc k) (q ∷ qs) zero v e = (omega arith, e)
-answered-before d (suc k) (q ∷ qs) (suc i) v e =
-    let m = answered-before (step deskRules d q .desk) k qs i v e in
+answered-before : (rule : Rule) (d : Desk House Change) (k : ℕ) (qs : List Request) (i v : ℕ) → answerAt (answers (deskRules rule) d (take k qs)) i ≡ Numbered v
+    → (i < k) × (answerAt (answers (deskRules rule) d qs) i ≡ Numbered v)
+answered-before rule d zero qs i v e = differ cc
+answered-before rule d (suc k) [] i v e = differ cc
+answered-before rule d (suc k) (q ∷ qs) zero v e = (omega arith, e)
+answered-before rule d (suc k) (q ∷ qs) (suc i) v e =
+    let m = answered-before rule (step (deskRules rule) d q .desk) k qs i v e in
     (omega (arith, m .0), m .1)
 
 none-made : {A : Type 0} (u s : ℕ) → Makes (TakeBack u) s → A
@@ -220,39 +221,39 @@ each-place : {A : Type 0} (P : A → Type 0) (d : A) (l : List A) → ((i : ℕ)
 each-place P d [] f = tt
 each-place P d (x ∷ xs) f = (f 0 (omega arith), each-place P d xs (λ i k. f (suc i) (omega arith)))
 
-module _ (h : House) (last : ℕ) (meets : rules h last ≡ true) (qs : List Request) where
+module _ (rule : Rule) (h : House) (last : ℕ) (meets : rules h last ≡ true) (qs : List Request) where
   -- no request is ever answered with the number of a draft that the desk opened with
-  pub not-given-again : (v s j : ℕ) → OpenedWith h v s → answerAt (answersFrom h last qs) j ≡ Numbered v → ⊥
+  pub not-given-again : (v s j : ℕ) → OpenedWith h v s → answerAt (answersFrom rule h last qs) j ≡ Numbered v → ⊥
   not-given-again v s j o e =
       let low = from-one-to-last h last meets (o .place) (o .live) .up-to in
-      absurd (omega (arith, low, o .has-number, above last (answersFrom h last qs) (rising h last qs) j v e))
+      absurd (omega (arith, low, o .has-number, above last (answersFrom rule h last qs) (rising rule h last qs) j v e))
 
   -- every draft live at any moment was there at the opening, or was made by the one request that was answered with its number; it is of that script still
-  pub live-made : (k : ℕ) → Each (MadeBefore h last qs k) (moment h last qs k .drafts)
+  pub live-made : (k : ℕ) → Each (MadeBefore rule h last qs k) (moment rule h last qs k .drafts)
   live-made k =
-      each-imp (Of from) (MadeBefore h last qs k) (moment h last qs k .drafts) (λ d m. told d m)
-      (now-holds deskRules (Drafts from) (run deskRules (opened h last) (take k qs))
-      (run-seen (OpenedWith h) (opened h last) (take k qs) (sound-opened deskRules (Drafts (OpenedWith h)) h last there)))
+      each-imp (Of from) (MadeBefore rule h last qs k) (moment rule h last qs k .drafts) (λ d m. told d m)
+      (now-holds (deskRules rule) (Drafts from) (run (deskRules rule) (opened h last) (take k qs))
+      (run-seen rule (OpenedWith h) (opened h last) (take k qs) (sound-opened (deskRules rule) (Drafts (OpenedWith h)) h last there)))
     where
       from : ℕ → ℕ → Type 0
-      from = Since (OpenedWith h) (opened h last) (take k qs)
+      from = Since rule (OpenedWith h) (opened h last) (take k qs)
 
       there : Drafts (OpenedWith h) h
       there = each-place (Of (OpenedWith h)) noDraft (h .drafts) (λ i l. record { place = i; live = l; has-number = refl; of-script = refl })
 
-      told : (d : Draft) → Of from d → MadeBefore h last qs k d
+      told : (d : Draft) → Of from d → MadeBefore rule h last qs k d
       told d (inl o) = record { making = before-opening; before = tt; made = o; alone = λ j e. absurd (not-given-again (d .number) (d .script) j o e) }
       told d (inr m) =
-          let b = answered-before (opened h last) k qs (m .place) (d .number) (m .answered) in
+          let b = answered-before rule (opened h last) k qs (m .place) (d .number) (m .answered) in
           record {
             making = by-request (m .place);
             before = b .0;
             made = record { answered = b .1; for-script = makes-before k qs (m .place) (d .script) (m .for-script) };
-            alone = λ j e. ap by-request (given-once h last qs j (m .place) (d .number) e (b .1));
+            alone = λ j e. ap by-request (given-once rule h last qs j (m .place) (d .number) e (b .1));
           }
 
   -- a number names one text, wherever it was made
-  one-text : (c d : Draft) → c .number ≡ d .number → (m : Making) → MadeIn h last qs (c .number) (c .script) m → MadeIn h last qs (d .number) (d .script) m
+  one-text : (c d : Draft) → c .number ≡ d .number → (m : Making) → MadeIn rule h last qs (c .number) (c .script) m → MadeIn rule h last qs (d .number) (d .script) m
       → c .script ≡ d .script
   one-text c d e before-opening one other =
       let same = no-two-alike h last meets (one .place) (other .place) (one .live) (other .live) (one .has-number ∙ e ∙ sym (other .has-number)) in
@@ -260,30 +261,30 @@ module _ (h : House) (last : ℕ) (meets : rules h last ≡ true) (qs : List Req
   one-text c d e (by-request i) one other = one-script (requestNo qs i) (c .script) (d .script) (one .for-script) (other .for-script)
 
   -- so a number live at two moments names a draft of the same script and the same making
-  pub same-text : (k l i j : ℕ) → i < length (moment h last qs k .drafts) → j < length (moment h last qs l .drafts)
-      → draftAt (moment h last qs k) i .number ≡ draftAt (moment h last qs l) j .number → SameText h last qs (draftAt (moment h last qs k) i) (draftAt (moment h last qs l) j)
+  pub same-text : (k l i j : ℕ) → i < length (moment rule h last qs k .drafts) → j < length (moment rule h last qs l .drafts)
+      → draftAt (moment rule h last qs k) i .number ≡ draftAt (moment rule h last qs l) j .number → SameText rule h last qs (draftAt (moment rule h last qs k) i) (draftAt (moment rule h last qs l) j)
   same-text k l i j p q e =
-      together (each-at (MadeBefore h last qs k) (moment h last qs k .drafts) noDraft i p (live-made k))
-      (each-at (MadeBefore h last qs l) (moment h last qs l .drafts) noDraft j q (live-made l))
+      together (each-at (MadeBefore rule h last qs k) (moment rule h last qs k .drafts) noDraft i p (live-made k))
+      (each-at (MadeBefore rule h last qs l) (moment rule h last qs l .drafts) noDraft j q (live-made l))
     where
       c : Draft
-      c = draftAt (moment h last qs k) i
+      c = draftAt (moment rule h last qs k) i
 
       d : Draft
-      d = draftAt (moment h last qs l) j
+      d = draftAt (moment rule h last qs l) j
 
-      together : MadeBefore h last qs k c → MadeBefore h last qs l d → SameText h last qs c d
+      together : MadeBefore rule h last qs k c → MadeBefore rule h last qs l d → SameText rule h last qs c d
       together a b = go (a .making) refl (b .making) refl
         where
-          one-making : a .making ≡ b .making → SameText h last qs c d
+          one-making : a .making ≡ b .making → SameText rule h last qs c d
           one-making same =
-              let other = subst (MadeIn h last qs (d .number) (d .script)) (sym same) (b .made) in
+              let other = subst (MadeIn rule h last qs (d .number) (d .script)) (sym same) (b .made) in
               record { making = a .making; one = a .made; other = other; same-script = one-text c d e (a .making) (a .made) other }
 
-          made-as : {x y : Making} → x ≡ y → (v s : ℕ) → MadeIn h last qs v s x → MadeIn h last qs v s y
-          made-as z v s m = subst (MadeIn h last qs v s) z m
+          made-as : {x y : Making} → x ≡ y → (v s : ℕ) → MadeIn rule h last qs v s x → MadeIn rule h last qs v s y
+          made-as z v s m = subst (MadeIn rule h last qs v s) z m
 
-          go : (x : Making) → a .making ≡ x → (y : Making) → b .making ≡ y → SameText h last qs c d
+          go : (x : Making) → a .making ≡ x → (y : Making) → b .making ≡ y → SameText rule h last qs c d
           go before-opening u before-opening w = one-making (u ∙ sym w)
           go x u (by-request n) w = one-making (sym (a .alone n (made-as w (d .number) (d .script) (b .made) .answered ∙ ap Numbered (sym e))) ∙ sym w)
           go (by-request n) u before-opening w = one-making (u ∙ b .alone n (made-as u (c .number) (c .script) (a .made) .answered ∙ ap Numbered e))

@@ -8,6 +8,7 @@ use lib.ListN.{length, take}
 use Rattle.request.specs.declared.Request.{Request}
 use Rattle.request.specs.declared.Request.the-variants.{Read, TakeBack}
 use Rattle.records.specs.House.{House}
+use Rattle.records.specs.declared.Rule.{Rule}
 use Rattle.effects.specs.declared.Change.{Change}
 use Rattle.log.specs.Log.{popped}
 use Rattle.history.specs.declared.Answer.{Answer}
@@ -53,10 +54,10 @@ EachAnswered P [] more = Unit {0}
 EachAnswered P (q ∷ qs) [] = Unit {0}
 EachAnswered P (q ∷ qs) (a ∷ more) = P q a × EachAnswered P qs more
 
-module _ (d : Desk House Change) (q : Request) where
+module _ (rule : Rule) (d : Desk House Change) (q : Request) where
   -- the desk after q
   abbrev pub nextDesk : Desk House Change
-  nextDesk = step deskRules d q .desk
+  nextDesk = step (deskRules rule) d q .desk
 
   -- back as it stood: room, people, scripts and open sessions are those before q; the last number is the one after it
   pub record AsItStood (o : Outcome House Change) : Type 0 where
@@ -65,15 +66,15 @@ module _ (d : Desk House Change) (q : Request) where
 
   module _ (rs : List Request) where
     abbrev pub atLast : Desk House Change
-    atLast = run deskRules nextDesk rs
+    atLast = run (deskRules rule) nextDesk rs
 
     pub record ThenBack (u : ℕ) : Type 0 where
-      pub granted : grants (step deskRules d q .answer) ≡ true
-      pub idle : EachAnswered Idle rs (answers deskRules nextDesk rs)
-      pub back : grants (step deskRules atLast (TakeBack u) .answer) ≡ true
+      pub granted : grants (step (deskRules rule) d q .answer) ≡ true
+      pub idle : EachAnswered Idle rs (answers (deskRules rule) nextDesk rs)
+      pub back : grants (step (deskRules rule) atLast (TakeBack u) .answer) ≡ true
 
 -- two take-backs: the second takes the change before, and not the first take-back
-pub record BothBack (d : Desk House Change) (o : Outcome House Change) : Type 0 where
+pub record BothBack (rule : Rule) (d : Desk House Change) (o : Outcome House Change) : Type 0 where
   pub log : o .desk .log ≡ popped (popped (d .log))
   pub last : o .desk .last ≡ d .last
-  pub records : o .desk .current ≡ changed deskRules (d .base) (popped (popped (d .log)))
+  pub records : o .desk .current ≡ changed (deskRules rule) (d .base) (popped (popped (d .log)))

@@ -9,6 +9,7 @@ use Rattle.request.specs.Bytes.{Bytes}
 use Rattle.request.specs.declared.Request.{Request}
 use Rattle.request.specs.declared.Request.the-variants.{TakeBack}
 use Rattle.records.specs.House.{House}
+use Rattle.records.specs.declared.Rule.{Rule}
 use Rattle.effects.specs.Effects.{applied}
 use Rattle.reasons.specs.Asking.{AllHold}
 use Rattle.judge.specs.Kinds.{linesOf}
@@ -37,33 +38,33 @@ abbrev pub roomOf : Call → ℕ
 roomOf c = length (c .buffer) - c .place
 
 -- these calls, each of which kept the batch's contract, lead from one desk to another
-pub data Calls : State → List Call → State → Type 0 where
-  none : {d : State} → Calls d [] d
+pub data Calls (rule : Rule) : State → List Call → State → Type 0 where
+  none : {d : State} → Calls rule d [] d
   then : {d d₁ d₂ : State} {cs : List Call} (c : Call) → Bytes (c .requests)
-      → Batched d (c .requests) (c .buffer) (c .place) d₁ (c .returned) (c .after) → Calls d₁ cs d₂ → Calls d (c ∷ cs) d₂
+      → Batched rule d (c .requests) (c .buffer) (c .place) d₁ (c .returned) (c .after) → Calls rule d₁ cs d₂ → Calls rule d (c ∷ cs) d₂
 
 -- the requests that they took, in order
-abbrev pub takenIn : State → List Call → List Request
-takenIn d [] = []
-takenIn d (c ∷ cs) = let qs : List Request = taken d (c .requests) (roomOf c) in qs ++ takenIn (run deskRules d qs) cs
+abbrev pub takenIn : Rule → State → List Call → List Request
+takenIn rule d [] = []
+takenIn rule d (c ∷ cs) = let qs : List Request = taken rule d (c .requests) (roomOf c) in qs ++ takenIn rule (run (deskRules rule) d qs) cs
 
 -- ---- what is promised of the desk d that requests lead to from an opening with the records h and the last number `last`: demand 3, what the user fears, and
 -- the record rules
-pub record Promised (h : House) (last : ℕ) (qs : List Request) (d : State) : Type 0 where
+pub record Promised (rule : Rule) (h : House) (last : ℕ) (qs : List Request) (d : State) : Type 0 where
   -- "the records equal those got by starting empty and applying, in order, every granted change that wasn't taken back, each with the draft number it
   -- received", and "demand 3 then starts from the image": starting from h; by the book of survivors, and by requests and answers alone
-  pub by-the-book : d .current ≡ foldl applied h (bookAfter deskRules h (blank last) qs .survivors)
-  pub by-the-answers : d .current ≡ foldl applied h (survive [] (events eventOf qs (answersFrom h last qs)))
+  pub by-the-book : d .current ≡ foldl applied h (bookAfter (deskRules rule) h (blank last) qs .survivors)
+  pub by-the-answers : d .current ≡ foldl applied h (survive [] (events eventOf qs (answersFrom rule h last qs)))
   -- "Each draft number is larger than all before it, taken-back ones included"
-  pub rising : Rising last (numbers (answersFrom h last qs))
+  pub rising : Rising last (numbers (answersFrom rule h last qs))
   -- "refused for want of one exactly when none of the last 32 is left by the counting rule", else "the newest kept change" goes
-  pub no-change-left : (u : ℕ) → AllHold (linesOf (d .current) (TakeBack u)) → keptNow h last qs ≡ 0 → step deskRules d (TakeBack u) ≡ outcome d (Answer.Refused 12)
-  pub newest-goes : (u : ℕ) → AllHold (linesOf (d .current) (TakeBack u)) → (keptNow h last qs ≡ 0 → ⊥) → TakenBack deskRules d (step deskRules d (TakeBack u))
+  pub no-change-left : (u : ℕ) → AllHold (linesOf rule (d .current) (TakeBack u)) → keptNow rule h last qs ≡ 0 → step (deskRules rule) d (TakeBack u) ≡ outcome d (Answer.Refused 12)
+  pub newest-goes : (u : ℕ) → AllHold (linesOf rule (d .current) (TakeBack u)) → (keptNow rule h last qs ≡ 0 → ⊥) → TakenBack (deskRules rule) d (step (deskRules rule) d (TakeBack u))
   -- "leads close the wrong room .. and need it back as it stood"
-  pub back-as-it-stood : (q : Request) (rs : List Request) (u : ℕ) → IsChange q → ThenBack d q rs u → AsItStood d q (step deskRules (atLast d q rs) (TakeBack u))
+  pub back-as-it-stood : (q : Request) (rs : List Request) (u : ℕ) → IsChange q → ThenBack rule d q rs u → AsItStood rule d q (step (deskRules rule) (atLast rule d q rs) (TakeBack u))
   -- "a number once seen must never name another text": it is given once, and at each moment what bears it was made by the request that got it, or before
   -- the opening, and then no request gets it
-  pub given-once : (i j v : ℕ) → answerAt (answersFrom h last qs) i ≡ Answer.Numbered v → answerAt (answersFrom h last qs) j ≡ Answer.Numbered v → i ≡ j
-  pub live-made : (k : ℕ) → Each (MadeBefore h last qs k) (moment h last qs k .drafts)
+  pub given-once : (i j v : ℕ) → answerAt (answersFrom rule h last qs) i ≡ Answer.Numbered v → answerAt (answersFrom rule h last qs) j ≡ Answer.Numbered v → i ≡ j
+  pub live-made : (k : ℕ) → Each (MadeBefore rule h last qs k) (moment rule h last qs k .drafts)
   -- "Every desk reached from an opening meets these record rules"
   pub meets : rules (d .current) (d .last) ≡ true

@@ -8,6 +8,7 @@ use Rattle.judge.specs.Kinds.{grantOf}
 use Rattle.judge.specs.declared.Ruling.{Ruling}
 use Rattle.judge.specs.declared.Ruling.the-variants.{Refused, Pass, Keep, KeepNumbered, TakeBack}
 use Rattle.records.specs.House.{House}
+use Rattle.records.specs.declared.Rule.{Rule}
 use Rattle.history.specs.Machine.{Desk, opened, run, answers}
 use Rattle.history.specs.Desk.{changeOf, deskRules}
 use Rattle.history.specs.declared.Answer.{Answer}
@@ -27,12 +28,12 @@ eventOf q (Answer.Numbered n) = kept (changeOf q n)
 eventOf q (Answer.Refused n) = nothing
 
 -- ---- the requests qs from a desk opened with the records h and the last number `last`: the desk then, and the answers
-abbrev pub reachedDesk : House → ℕ → List Request → Desk House Change
-reachedDesk h last qs = run deskRules (opened h last) qs
+abbrev pub reachedDesk : Rule → House → ℕ → List Request → Desk House Change
+reachedDesk rule h last qs = run (deskRules rule) (opened h last) qs
 
-abbrev pub answersFrom : House → ℕ → List Request → List Answer
-answersFrom h last qs = answers deskRules (opened h last) qs
+abbrev pub answersFrom : Rule → House → ℕ → List Request → List Answer
+answersFrom rule h last qs = answers (deskRules rule) (opened h last) qs
 
 -- the kept count by 01's rule, read off requests and answers
-abbrev pub keptNow : House → ℕ → List Request → ℕ
-keptNow h last qs = keptCount 0 (events eventOf qs (answersFrom h last qs))
+abbrev pub keptNow : Rule → House → ℕ → List Request → ℕ
+keptNow rule h last qs = keptCount 0 (events eventOf qs (answersFrom rule h last qs))

@@ -9,6 +9,7 @@ use lib.ListN.{length}
 use Rattle.request.specs.declared.Request.{Request}
 use Rattle.records.specs.Lists.{any}
 use Rattle.records.specs.House.{House}
+use Rattle.records.specs.declared.Rule.{Rule}
 use Rattle.effects.specs.declared.Change.{Change}
 use Rattle.reasons.specs.Asking.{AllHold}
 use Rattle.reasons.specs.Order.{isRefusal}
@@ -29,15 +30,15 @@ grants (Numbered n) = true
 grants (Refused n) = false
 
 -- the rules allow it: every condition of the kind holds in the records, a number is left where one is given, and a kept change for Take back
-pub record Allowed (d : Desk House Change) (q : Request) : Type 0 where
-  pub conditions : AllHold (linesOf (d .current) q)
+pub record Allowed (rule : Rule) (d : Desk House Change) (q : Request) : Type 0 where
+  pub conditions : AllHold (linesOf rule (d .current) q)
   pub number-left : grantOf q ≡ KeepNumbered → d .last ≡ top → ⊥
   pub change-left : grantOf q ≡ TakeBack → length (d .log) ≡ 0 → ⊥
 
 -- granted exactly when the rules allow it
-pub record GrantedExactly (d : Desk House Change) (q : Request) (a : Answer) : Type 0 where
-  pub granted-allowed : grants a ≡ true → Allowed d q
-  pub allowed-granted : Allowed d q → grants a ≡ true
+pub record GrantedExactly (rule : Rule) (d : Desk House Change) (q : Request) (a : Answer) : Type 0 where
+  pub granted-allowed : grants a ≡ true → Allowed rule d q
+  pub allowed-granted : Allowed rule d q → grants a ≡ true
 
 -- the grant of a kind: "one more" than the last number where the kind gets one
 abbrev pub grantAfter : ℕ → Ruling → Answer

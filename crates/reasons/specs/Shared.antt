@@ -3,6 +3,7 @@ use Prim.Native.Nat.{ℕ}
 use mathlib.Core.List.{List, [], _∷_}
 use Rattle.label.specs.declared.Parts.{Parts}
 use Rattle.records.specs.House.{House, user, script, session}
+use Rattle.records.specs.declared.Rule.{Rule}
 use Rattle.conditions.specs.Conditions.{opening, reading, updating, importing}
 use Rattle.reasons.specs.Reasons.{Decided, aUser, aScript, aSession}
 use Rattle.reasons.specs.Asking.{Line}
@@ -47,10 +48,10 @@ unfoldable pub asScript : House → ℕ → ℕ → List Line
 asScript h s k =
     labelLines (updating (session h s) (script h k)) (aSession s) (session h s .level) (session h s .categories) (script h k .level) (script h k .categories)
 
--- 09: the label of script 2, that of script 1
-unfoldable pub alike : House → ℕ → ℕ → List Line
-alike h k₁ k₂ =
-    labelLines (importing (script h k₂) (script h k₁)) (aScript k₂) (script h k₂ .level) (script h k₂ .categories) (script h k₁ .level) (script h k₁ .categories)
+-- 09: the label of script 2, that of script 1, by the rule
+unfoldable pub imports : Rule → House → ℕ → ℕ → List Line
+imports rule h k₁ k₂ =
+    labelLines (importing rule (script h k₂) (script h k₁)) (aScript k₂) (script h k₂ .level) (script h k₂ .categories) (script h k₁ .level) (script h k₁ .categories)
 
 -- 13, 14: a session and a draft
 unfoldable pub draftAsked : House → ℕ → ℕ → ℕ → List Line

@@ -4,7 +4,7 @@ ghost use mathlib.Core.List.{[], _∷_};
 ghost use Rattle.records.specs.House.{view, draftAt};
 ghost use Rattle.reasons.specs.Asking.{asked, both};
 ghost use Rattle.reasons.specs.Lines.{scriptExists, draftExists, scriptNew, draftAmong, draftNotAmong, originIs};
-ghost use Rattle.reasons.specs.Shared.{alike};
+ghost use Rattle.reasons.specs.Shared.{imports};
 ghost use Rattle.reasons.specs.Reach.{reachedBy};
 use crate::Asked;
 use crate::Reached;
@@ -16,6 +16,7 @@ use crate::of_script;
 use crate::only;
 use records::Cells;
 use records::Found;
+use records::Rule;
 
 impl Asked {
     pub fn script_exists(self, records: &Cells, script: u8) -> Asked
@@ -94,14 +95,14 @@ impl Asked {
         of_script(8, fact, script, found.origin as u32, place as u32)
     }
 
-    // Of Import: the label of script 2 is that of script 1.
-    pub fn alike(self, records: &Cells, script1: u8, script2: u8) -> Asked
-        ensures { λ r. ⌜ r ≡ both self (asked (alike (view (now (records .entry))) script1 script2)) ⌝ }
+    // Of Import: the label of script 2 is that of script 1, or dominates it but for the place, by the rule.
+    pub fn imports(self, records: &Cells, rule: Rule, script1: u8, script2: u8) -> Asked
+        ensures { λ r. ⌜ r ≡ both self (asked (imports rule (view (now (records .entry))) script1 script2)) ⌝ }
     {
         let Asked::Holds = self else {
             return self;
         };
-        let parts = conditions::importing(records, script2 as usize, script1 as usize);
+        let parts = conditions::importing(records, rule, script2 as usize, script1 as usize);
         let from = records::script_at(records, script1 as usize);
         let to = records::script_at(records, script2 as usize);
         labels(

@@ -14,12 +14,13 @@ use Rattle.request.specs.declared.Request.the-variants.{Enrol, Establish, JoinS
 use Rattle.request.proofs.RoundTrip.{written-is-read}
 use Rattle.request.proofs.Ways.{empty}
 use Rattle.records.specs.House.{House}
+use Rattle.records.specs.declared.Rule.{Rule}
 use Rattle.effects.specs.declared.Change.{Change}
 use Rattle.counter.specs.Numbers.{top, nextAfter}
 use Rattle.reasons.specs.Reasons.{bare, reason}
 use Rattle.reasons.specs.Asking.{Line, _unless_, _because_, asked, both, told, FirstFailing, here, later, numbers}
 use Rattle.reasons.specs.Order.{ascendFrom}
-use Rattle.reasons.specs.Shared.{pairNumbers, pairLed, draftLed, opens, covers, asScript, alike, draftAsked}
+use Rattle.reasons.specs.Shared.{pairNumbers, pairLed, draftLed, opens, covers, asScript, imports, draftAsked}
 use Rattle.reasons.specs.declared.Reason.{Reason}
 use Rattle.reasons.specs.declared.Asked.{Asked}
 use Rattle.reasons.specs.declared.Asked.the-variants.{Holds, Fails}
@@ -37,35 +38,35 @@ use Rattle.why.specs.Why.{afterLines, deskLines, reasonOf, reasonOfBytes
 use Rattle.why.specs.Explained.{refusalOf, askedBy, TrueOf, of-records, no-number, no-change, Explained}
 
 -- ---- the numbers of all that is asked ascend in the order of refusals
-lines-ascend : (h : House) (last kept : ℕ) (q : Request) → ascendFrom 0 (numbers (deskLines h last kept q)) ≡ true
-unfolding enrolWhere establishLines pairNumbers pairLed draftLed importLines disbandLines opens covers asScript alike draftAsked createLines killLines takeBackLines
-lines-ascend h last kept (Enrol u new sort level c admin) = refl
-lines-ascend h last kept (Establish u room) = refl
-lines-ascend h last kept (JoinStaff u w room) = refl
-lines-ascend h last kept (LeaveStaff u w room) = refl
-lines-ascend h last kept (JoinOutsider u w room level c) = refl
-lines-ascend h last kept (LeaveOutsider u w room) = refl
-lines-ascend h last kept (Add u k v room) = refl
-lines-ascend h last kept (Remove u k v room) = refl
-lines-ascend h last kept (Import u k₁ v k₂ room) = refl
-lines-ascend h last kept (Merge u k v room) = refl
-lines-ascend h last kept (Disband u room) = refl
-lines-ascend h last kept (OpenInRoom u s room level c) = refl
-lines-ascend h last kept (OpenInHouse u s level c) = refl
-lines-ascend h last kept (OpenReadOnly u s level c) = refl
-lines-ascend h last kept (Read s k v) = refl
-lines-ascend h last kept (Update s k v) = refl
-lines-ascend h last kept (Create s k) = refl
-lines-ascend h last kept (Kill u s) = refl
-lines-ascend h last kept (TakeBack u) = refl
+lines-ascend : (rule : Rule) (h : House) (last kept : ℕ) (q : Request) → ascendFrom 0 (numbers (deskLines rule h last kept q)) ≡ true
+unfolding enrolWhere establishLines pairNumbers pairLed draftLed importLines disbandLines opens covers asScript imports draftAsked createLines killLines takeBackLines
+lines-ascend rule h last kept (Enrol u new sort level c admin) = refl
+lines-ascend rule h last kept (Establish u room) = refl
+lines-ascend rule h last kept (JoinStaff u w room) = refl
+lines-ascend rule h last kept (LeaveStaff u w room) = refl
+lines-ascend rule h last kept (JoinOutsider u w room level c) = refl
+lines-ascend rule h last kept (LeaveOutsider u w room) = refl
+lines-ascend rule h last kept (Add u k v room) = refl
+lines-ascend rule h last kept (Remove u k v room) = refl
+lines-ascend rule h last kept (Import u k₁ v k₂ room) = refl
+lines-ascend rule h last kept (Merge u k v room) = refl
+lines-ascend rule h last kept (Disband u room) = refl
+lines-ascend rule h last kept (OpenInRoom u s room level c) = refl
+lines-ascend rule h last kept (OpenInHouse u s level c) = refl
+lines-ascend rule h last kept (OpenReadOnly u s level c) = refl
+lines-ascend rule h last kept (Read s k v) = refl
+lines-ascend rule h last kept (Update s k v) = refl
+lines-ascend rule h last kept (Create s k) = refl
+lines-ascend rule h last kept (Kill u s) = refl
+lines-ascend rule h last kept (TakeBack u) = refl
 
 -- ---- the number is the one that the desk answers with
-module _ (d : Desk House Change) (q : Request) where
+module _ (rule : Rule) (d : Desk House Change) (q : Request) where
   abbrev after : Ruling → Asked
   after g = asked (afterLines g (d .last) (length (d .log)))
 
   by-grant : (g : Ruling) (a : Asked) → ((r : Reason) → g ≡ Refused r → ⊥)
-      → told (both a (after g)) .number ≡ refusalOf (machine.ruled deskRules d (verdictOf q (grantIf g a)) .answer)
+      → told (both a (after g)) .number ≡ refusalOf (machine.ruled (deskRules rule) d (verdictOf q (grantIf g a)) .answer)
   unfolding asked takeBack
   by-grant g (Fails x) is-grant = refl
   by-grant (Refused r) Holds is-grant = absurd (is-grant r refl)
@@ -73,20 +74,20 @@ module _ (d : Desk House Change) (q : Request) where
   by-grant Keep Holds is-grant = refl
   by-grant KeepNumbered Holds is-grant = go (eqb (d .last) top) refl
     where
-      go : (t : Bool) → eqb (d .last) top ≡ t → told (after KeepNumbered) .number ≡ refusalOf (issued deskRules d (changeOf q) (nextAfter (d .last)) .answer)
+      go : (t : Bool) → eqb (d .last) top ≡ t → told (after KeepNumbered) .number ≡ refusalOf (issued (deskRules rule) d (changeOf q) (nextAfter (d .last)) .answer)
       go true e = rw e
       go false e = rw e
   by-grant Ruling.TakeBack Holds is-grant = go (eqb (length (d .log)) 0) refl
     where
-      go : (t : Bool) → eqb (length (d .log)) 0 ≡ t → told (after Ruling.TakeBack) .number ≡ refusalOf (takeBack deskRules d .answer)
+      go : (t : Bool) → eqb (length (d .log)) 0 ≡ t → told (after Ruling.TakeBack) .number ≡ refusalOf (takeBack (deskRules rule) d .answer)
       go true e = rw e
       go false e = rw e
 
-  answered : reasonOf (d .current) (d .last) (length (d .log)) q .number ≡ refusalOf (step deskRules d q .answer)
+  answered : reasonOf rule (d .current) (d .last) (length (d .log)) q .number ≡ refusalOf (step (deskRules rule) d q .answer)
   unfolding reasonOf step rulingOf
   answered =
-      ap (λ (a : Asked). told a .number) (more (linesOf (d .current) q) (afterLines (grantOf q) (d .last) (length (d .log))))
-      ∙ by-grant (grantOf q) (asked (linesOf (d .current) q)) (grant-is-none q)
+      ap (λ (a : Asked). told a .number) (more (linesOf rule (d .current) q) (afterLines (grantOf q) (d .last) (length (d .log))))
+      ∙ by-grant (grantOf q) (asked (linesOf rule (d .current) q)) (grant-is-none q)
 
   -- ---- what is named is true of the desk
   -- the first that fails of two lists is of the one or of the other
@@ -95,48 +96,48 @@ module _ (d : Desk House Change) (q : Request) where
   split (n unless b because e ∷ xs) ys f g (here p w) = f (here p w)
   split (n unless b because e ∷ xs) ys f g (later p x) = split xs ys (λ y. f (later p y)) g x
 
-  after-true : (g : Ruling) {r : Reason} → FirstFailing r (afterLines g (d .last) (length (d .log))) → TrueOf d r
+  after-true : (g : Ruling) {r : Reason} → FirstFailing r (afterLines g (d .last) (length (d .log))) → TrueOf rule d r
   after-true KeepNumbered (here p w) = rw w (no-number (eqb-true (d .last) top (not-false (eqb (d .last) top) p)))
   after-true Ruling.TakeBack (here p w) = rw w (no-change (eqb-true (length (d .log)) 0 (not-false (eqb (length (d .log)) 0) p)))
 
-  named-true : {r : Reason} → FirstFailing r (askedBy d q) → TrueOf d r
-  named-true {r} f = split (linesOf (d .current) q) (afterLines (grantOf q) (d .last) (length (d .log))) (λ x. of-records (first-told (d .current) q r x)) (after-true (grantOf q)) f
+  named-true : {r : Reason} → FirstFailing r (askedBy rule d q) → TrueOf rule d r
+  named-true {r} f = split (linesOf rule (d .current) q) (afterLines (grantOf q) (d .last) (length (d .log))) (λ x. of-records (first-told rule (d .current) q r x)) (after-true (grantOf q)) f
 
   -- ---- the theorem
-  pub explained : Explained d q (reasonOf (d .current) (d .last) (length (d .log)) q)
+  pub explained : Explained rule d q (reasonOf rule (d .current) (d .last) (length (d .log)) q)
   unfolding reasonOf
   explained =
       record {
         as-answered = answered;
         all-zeros = λ a. zeros-if-all a;
-        all-held = all-if-zero (askedBy d q) (lines-ascend (d .current) (d .last) (length (d .log)) q);
-        first-named = first (verdict (askedBy d q));
-        lowest = λ k n f. lowest 0 (lines-ascend (d .current) (d .last) (length (d .log)) q) (first (verdict (askedBy d q)) n) f;
-        true-of = λ n. named-true (first (verdict (askedBy d q)) n);
+        all-held = all-if-zero (askedBy rule d q) (lines-ascend rule (d .current) (d .last) (length (d .log)) q);
+        first-named = first (verdict (askedBy rule d q));
+        lowest = λ k n f. lowest 0 (lines-ascend rule (d .current) (d .last) (length (d .log)) q) (first (verdict (askedBy rule d q)) n) f;
+        true-of = λ n. named-true (first (verdict (askedBy rule d q)) n);
       }
     where
-      first : Verdict (askedBy d q) → (told (asked (askedBy d q)) .number ≡ 0 → ⊥) → FirstFailing (told (asked (askedBy d q))) (askedBy d q)
+      first : Verdict (askedBy rule d q) → (told (asked (askedBy rule d q)) .number ≡ 0 → ⊥) → FirstFailing (told (asked (askedBy rule d q))) (askedBy rule d q)
       first (grant a) n = absurd (n (ap (λ (r : Reason). r .number) (zeros-if-all a)))
       first (refusal r f) n =
-          let e : told (asked (askedBy d q)) ≡ r = ap told (first-fails f) in
+          let e : told (asked (askedBy rule d q)) ≡ r = ap told (first-fails f) in
           rw e f
 
 -- ---- of bytes
 -- "agrees with the judge for every whole frame": whatever is behind it
-pub frame-explained : (d : Desk House Change) (b : List ℕ) (q : Request) → frameOf b ≡ Whole q → Explained d q (reasonOfBytes (d .current) (d .last) (length (d .log)) b)
-frame-explained d b q f = rw f (explained d q)
+pub frame-explained : (rule : Rule) (d : Desk House Change) (b : List ℕ) (q : Request) → frameOf b ≡ Whole q → Explained rule d q (reasonOfBytes rule (d .current) (d .last) (length (d .log)) b)
+frame-explained rule d b q f = rw f (explained rule d q)
 
-module _ (h : House) (last kept : ℕ) where
+module _ (rule : Rule) (h : House) (last kept : ℕ) where
   -- what is behind a whole frame is not read
-  pub frame-alone : (q : Request) (rest : List ℕ) → reasonOfBytes h last kept (written q ++ rest) ≡ reasonOf h last kept q
+  pub frame-alone : (q : Request) (rest : List ℕ) → reasonOfBytes rule h last kept (written q ++ rest) ≡ reasonOf rule h last kept q
   frame-alone q rest = rw (written-is-read q rest)
 
   -- "for other bytes gives 1 or 2 and zeros", 2 for no bytes
-  pub unknown-kind : (b : List ℕ) → frameOf b ≡ Unknown → reasonOfBytes h last kept b ≡ bare 1
+  pub unknown-kind : (b : List ℕ) → frameOf b ≡ Unknown → reasonOfBytes rule h last kept b ≡ bare 1
   unknown-kind b f = rw f
 
-  pub cut-body : (b : List ℕ) → frameOf b ≡ Cut → reasonOfBytes h last kept b ≡ bare 2
+  pub cut-body : (b : List ℕ) → frameOf b ≡ Cut → reasonOfBytes rule h last kept b ≡ bare 2
   cut-body b f = rw f
 
-  pub no-bytes : reasonOfBytes h last kept [] ≡ bare 2
+  pub no-bytes : reasonOfBytes rule h last kept [] ≡ bare 2
   no-bytes = rw (sym (empty [] refl))

@@ -3,6 +3,7 @@ use Prim.Native.Nat.{ℕ}
 use mathlib.Core.Path.{_≡_, refl, sym, ap, _∙_}
 use Rattle.request.specs.declared.Request.{Request}
 use Rattle.records.specs.House.{House}
+use Rattle.records.specs.declared.Rule.{Rule}
 use Rattle.reasons.specs.Asking.{asked, both, told}
 use Rattle.reasons.specs.declared.Reason.{Reason}
 use Rattle.reasons.specs.declared.Asked.{Asked}
@@ -24,8 +25,8 @@ module _ (last kept : ℕ) where
   of-both KeepNumbered is-grant Holds = refl
   of-both TakeBack is-grant Holds = refl
 
-  pub from-ruling : (h : House) (q : Request) {x : Ruling} → x ≡ rulingOf h q → reasonAfter x last kept ≡ reasonOf h last kept q
+  pub from-ruling : (rule : Rule) (h : House) (q : Request) {x : Ruling} → x ≡ rulingOf rule h q → reasonAfter x last kept ≡ reasonOf rule h last kept q
   unfolding reasonOf rulingOf
-  from-ruling h q e =
+  from-ruling rule h q e =
       ap (λ (z : Ruling). reasonAfter z last kept) e
-      ∙ sym (ap told (more (linesOf h q) (afterLines (grantOf q) last kept)) ∙ of-both (grantOf q) (grant-is-none q) (asked (linesOf h q)))
+      ∙ sym (ap told (more (linesOf rule h q) (afterLines (grantOf q) last kept)) ∙ of-both (grantOf q) (grant-is-none q) (asked (linesOf rule h q)))

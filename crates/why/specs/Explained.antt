@@ -6,6 +6,7 @@ use mathlib.Core.List.{List}
 use lib.ListN.{length}
 use Rattle.request.specs.declared.Request.{Request}
 use Rattle.records.specs.House.{House}
+use Rattle.records.specs.declared.Rule.{Rule}
 use Rattle.effects.specs.declared.Change.{Change}
 use Rattle.counter.specs.Numbers.{top}
 use Rattle.reasons.specs.Reasons.{noRecord, reason, zeros}
@@ -25,21 +26,21 @@ refusalOf Granted = 0
 refusalOf (Numbered n) = 0
 refusalOf (Refused n) = n
 
--- all that the desk d asks of q
-abbrev pub askedBy : Desk House Change → Request → List Line
-askedBy d q = deskLines (d .current) (d .last) (length (d .log)) q
+-- all that the desk d under the rule asks of q
+abbrev pub askedBy : Rule → Desk House Change → Request → List Line
+askedBy rule d q = deskLines rule (d .current) (d .last) (length (d .log)) q
 
 -- r is true of the desk: of its records, or of what is left
-pub data TrueOf (d : Desk House Change) : Reason → Type 0 where
-  of-records : {r : Reason} → Told (d .current) r → TrueOf d r
-  no-number : d .last ≡ top → TrueOf d (reason 11 (noRecord (d .last) top))
-  no-change : length (d .log) ≡ 0 → TrueOf d (reason 12 (noRecord (length (d .log)) 0))
+pub data TrueOf (rule : Rule) (d : Desk House Change) : Reason → Type 0 where
+  of-records : {r : Reason} → Told rule (d .current) r → TrueOf rule d r
+  no-number : d .last ≡ top → TrueOf rule d (reason 11 (noRecord (d .last) top))
+  no-change : length (d .log) ≡ 0 → TrueOf rule d (reason 12 (noRecord (length (d .log)) 0))
 
 -- r explains the answer of d to q; by the order of refusals no condition that fails stands before the one named
-pub record Explained (d : Desk House Change) (q : Request) (r : Reason) : Type 0 where
-  pub as-answered : r .number ≡ refusalOf (step deskRules d q .answer)
-  pub all-zeros : AllHold (askedBy d q) → r ≡ zeros
-  pub all-held : r .number ≡ 0 → AllHold (askedBy d q)
-  pub first-named : (r .number ≡ 0 → ⊥) → FirstFailing r (askedBy d q)
-  pub lowest : (k : ℕ) → (r .number ≡ 0 → ⊥) → Failing k (askedBy d q) → rank (r .number) ≤ rank k
-  pub true-of : (r .number ≡ 0 → ⊥) → TrueOf d r
+pub record Explained (rule : Rule) (d : Desk House Change) (q : Request) (r : Reason) : Type 0 where
+  pub as-answered : r .number ≡ refusalOf (step (deskRules rule) d q .answer)
+  pub all-zeros : AllHold (askedBy rule d q) → r ≡ zeros
+  pub all-held : r .number ≡ 0 → AllHold (askedBy rule d q)
+  pub first-named : (r .number ≡ 0 → ⊥) → FirstFailing r (askedBy rule d q)
+  pub lowest : (k : ℕ) → (r .number ≡ 0 → ⊥) → Failing k (askedBy rule d q) → rank (r .number) ≤ rank k
+  pub true-of : (r .number ≡ 0 → ⊥) → TrueOf rule d r

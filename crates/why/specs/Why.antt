@@ -5,6 +5,7 @@ use Rattle.request.specs.Reading.{frameOf}
 use Rattle.request.specs.Framing.{byFrame}
 use Rattle.request.specs.declared.Request.{Request}
 use Rattle.records.specs.House.{House}
+use Rattle.records.specs.declared.Rule.{Rule}
 use Rattle.reasons.specs.Reasons.{bare, zeros}
 use Rattle.reasons.specs.Asking.{Line, asked, told}
 use Rattle.reasons.specs.Lines.{numberLeft, changeLeft}
@@ -21,13 +22,13 @@ afterLines Keep last kept = []
 afterLines KeepNumbered last kept = numberLeft last ∷ []
 afterLines TakeBack last kept = changeLeft kept ∷ []
 
--- all that a desk asks of a request, in order: its records, the last number issued, how many changes are kept
-abbrev pub deskLines : House → ℕ → ℕ → Request → List Line
-deskLines h last kept q = linesOf h q ++ afterLines (grantOf q) last kept
+-- all that a desk under the rule asks of a request, in order: its records, the last number issued, how many changes are kept
+abbrev pub deskLines : Rule → House → ℕ → ℕ → Request → List Line
+deskLines rule h last kept q = linesOf rule h q ++ afterLines (grantOf q) last kept
 
 -- the reason of the first that fails, and all zeros where all hold
-unfoldable pub reasonOf : House → ℕ → ℕ → Request → Reason
-reasonOf h last kept q = told (asked (deskLines h last kept q))
+unfoldable pub reasonOf : Rule → House → ℕ → ℕ → Request → Reason
+reasonOf rule h last kept q = told (asked (deskLines rule h last kept q))
 
 -- the same by the judge's ruling: a refusal has its reason, and a grant that of what is asked after it
 abbrev pub reasonAfter : Ruling → ℕ → ℕ → Reason
@@ -38,5 +39,5 @@ reasonAfter KeepNumbered last kept = told (asked (numberLeft last ∷ []))
 reasonAfter TakeBack last kept = told (asked (changeLeft kept ∷ []))
 
 -- "for other bytes gives 1 or 2 and zeros"; no bytes are a cut request
-abbrev pub reasonOfBytes : House → ℕ → ℕ → List ℕ → Reason
-reasonOfBytes h last kept b = byFrame (frameOf b) (bare 1) (bare 2) (λ (q : Request). reasonOf h last kept q)
+abbrev pub reasonOfBytes : Rule → House → ℕ → ℕ → List ℕ → Reason
+reasonOfBytes rule h last kept b = byFrame (frameOf b) (bare 1) (bare 2) (λ (q : Request). reasonOf rule h last kept q)

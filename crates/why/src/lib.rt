@@ -6,6 +6,7 @@ use judge::Ruling;
 use reasons::Asked;
 use reasons::Reason;
 use records::Cells;
+use records::Rule;
 use request::Frame;
 use request::Request;
 
@@ -22,22 +23,22 @@ pub fn of_ruling(ruling: Ruling, last: u32, kept: u32) -> Reason
     }
 }
 
-// Of a request.
-pub fn explain(records: &Cells, last: u32, kept: u32, request: Request) -> Reason
-    ensures { λ r. ⌜ r ≡ reasonOf (view (now (records .entry))) last kept request ⌝ }
+// Of a request, on a desk under the rule.
+pub fn explain(records: &Cells, rule: Rule, last: u32, kept: u32, request: Request) -> Reason
+    ensures { λ r. ⌜ r ≡ reasonOf rule (view (now (records .entry))) last kept request ⌝ }
 {
-    let ruling = judge::judge(records, request);
+    let ruling = judge::judge(records, rule, request);
     of_ruling(ruling, last, kept)
 }
 
 // Of bytes: the request that they begin with. What is behind it is not read.
-pub fn explain_bytes(records: &Cells, last: u32, kept: u32, bytes: &[u8]) -> Reason
-    ensures { λ r. ⌜ r ≡ reasonOfBytes (view (now (records .entry))) last kept (now (bytes .entry)) ⌝ }
+pub fn explain_bytes(records: &Cells, rule: Rule, last: u32, kept: u32, bytes: &[u8]) -> Reason
+    ensures { λ r. ⌜ r ≡ reasonOfBytes rule (view (now (records .entry))) last kept (now (bytes .entry)) ⌝ }
 {
     let frame = request::read(bytes);
     match frame {
         Frame::Unknown => reasons::bare(1),
         Frame::Cut => reasons::bare(2),
-        Frame::Whole(request) => explain(records, last, kept, request),
+        Frame::Whole(request) => explain(records, rule, last, kept, request),
     }
 }

@@ -12,17 +12,17 @@ use Rattle.batch.proofs.run.Statement.{statement}
 use Rattle.batch.proofs.run.Tie as tie
 
 abbrev Inv-loop : tie.InvT-loop
-Inv-loop base₀ log₀ current₀ last₀ requests answers₀ place used₀ at₀ base log current last answers used at =
-    Underway requests answers₀ place (shown base₀ log₀ current₀ last₀) answers (shown base log current last) used at
+Inv-loop base₀ log₀ current₀ last₀ rule requests answers₀ place used₀ at₀ base log current last answers used at =
+    Underway rule requests answers₀ place (shown base₀ log₀ current₀ last₀) answers (shown base log current last) used at
 
 abbrev μ-loop : tie.MeasureT-loop
-μ-loop base₀ log₀ current₀ last₀ requests answers₀ place used₀ at₀ base log current last answers used at =
+μ-loop base₀ log₀ current₀ last₀ rule requests answers₀ place used₀ at₀ base log current last answers used at =
     length requests - used
 
 loop-holds : tie.Need-loop-holds Inv-loop μ-loop
 loop-holds c =
     let a = c .before .before .args in
-    at-start (now (a .requests)) (now (a .answers)) (a .place) (shown (now (a .base)) (now (a .log)) (now (a .current)) (now (a .last)))
+    at-start (a .rule) (now (a .requests)) (now (a .answers)) (a .place) (shown (now (a .base)) (now (a .log)) (now (a .current)) (now (a .last)))
 
 cast-body-length : tie.Need-cast-body-length Inv-loop μ-loop
 cast-body-length c =
@@ -74,7 +74,7 @@ abbrev begun : tie.Joined1 Inv-loop μ-loop → tie.Start Inv-loop μ-loop
 begun c = c .before .before .before .before
 
 ended : (c : tie.Joined1 Inv-loop μ-loop)
-    → Over (now (begun c .args .requests)) (now (begun c .args .answers)) (begun c .args .place)
+    → Over (begun c .args .rule) (now (begun c .args .requests)) (now (begun c .args .answers)) (begun c .args .place)
     (shown (now (begun c .args .base)) (now (begun c .args .log)) (now (begun c .args .current)) (now (begun c .args .last)))
     (shown (c .before .loop .base) (c .before .loop .log) (c .before .loop .current) (c .before .loop .last))
     (c .before .loop .used) (c .if1 .answers) (c .if1 .at) (c .if1 .stop)

@@ -11,7 +11,7 @@ returns c =
     let s = c .before .before in
     let p = s .before .before .before in
     let a = p .before .before .args in
-    λ n m. kept-is (view (a .base .now)) _ (past (a .log .now)) _ (view (a .current .now)) _ (a .change) n m (s .settle .ensures) (c .push .ensures) (p .apply .ensures)
+    λ rule n m. kept-is rule (view (a .base .now)) _ (past (a .log .now)) _ (view (a .current .now)) _ (a .change) n m (s .settle .ensures) (c .push .ensures) (p .apply .ensures)
 
 pub make-spec : {M : Type 1} → statement M
 make-spec = tie.close (tie.spec (λ c κs. search needs) (λ c κs. search needs) (λ c κs. search needs) returns)

@@ -10,7 +10,7 @@ use Rattle.history.proofs.make_numbered.Statement.{statement}
 use Rattle.history.proofs.make_numbered.Tie as tie
 
 returns : tie.Need-returns
-returns c = rw (sym (c .before .before .issue-from .ensures .0) ∙ c .enum-told .given .1)
+returns c = λ rule. rw (sym (c .before .before .issue-from .ensures .0) ∙ c .enum-told .given .1)
 
 returns-2 : tie.Need-returns-2
 returns-2 c =
@@ -20,7 +20,7 @@ returns-2 c =
     let a = k .before .before .before .before .args in
     let n = k .next .given .0 .0 in
     let last = i .ensures .1 ∙ number-is-last (a .last .now) n number in
-    rw (number, last) (ap (λ (d : Desk House Change). outcome d (Numbered n)) (c .make .ensures n (a .last .now)))
+    λ rule. rw (number, last) (ap (λ (d : Desk House Change). outcome d (Numbered n)) (c .make .ensures rule n (a .last .now)))
 
 pub make-numbered-spec : {M : Type 1} → statement M
 make-numbered-spec =

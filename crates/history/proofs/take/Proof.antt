@@ -12,7 +12,7 @@ unfolding step
 returns c =
     let j = c .before .before .before .before .before in
     let a = j .before .before .args in
-    c .act .ensures ∙ ap (λ (x : Ruling). ruled deskRules (shown (a .base .now) (a .log .now) (a .current .now) (a .last .now)) (verdictOf (a .request) x)) (j .judge .ensures)
+    c .act .ensures (a .rule) ∙ ap (λ (x : Ruling). ruled (deskRules (a .rule)) (shown (a .base .now) (a .log .now) (a .current .now) (a .last .now)) (verdictOf (a .request) x)) (j .judge .ensures)
 
 pub take-spec : {M : Type 1} → statement M
 take-spec = tie.close (tie.spec (λ c κs. search needs) (λ c κs. search needs) returns)

@@ -23,7 +23,7 @@ returns c =
     let s11 = then _ _ s10 (c .before .before .before .before .leads .ensures) in
     let s12 = then _ _ s11 (c .before .before .before .of-origin .ensures) in
     let s13 = then _ _ s12 (c .before .before .of-origin2 .ensures) in
-    let s14 = then _ _ s13 (c .before .alike .ensures) in
+    let s14 = then _ _ s13 (c .before .imports .ensures) in
     then _ _ s14 (c .draft-room .ensures)
 
 pub import-spec : {M : Type 1} → statement M
