@@ -59,6 +59,10 @@ lineOf why ordinal kind answer reason =
 abbrev pub refusedText : ℕ → List ℕ
 refusedText n = (58 ∷ 32 ∷ 114 ∷ 101 ∷ 102 ∷ 117 ∷ 115 ∷ 101 ∷ 100 ∷ 32 ∷ []) ++ decimal n ++ (10 ∷ [])
 
+-- "another number is refusal 3: `desk: --rule 7: refused 3`"
+abbrev pub ruleRefusedText : ℕ → ℕ → List ℕ
+ruleRefusedText rule n = (100 ∷ 101 ∷ 115 ∷ 107 ∷ 58 ∷ 32 ∷ 45 ∷ 45 ∷ 114 ∷ 117 ∷ 108 ∷ 101 ∷ 32 ∷ []) ++ decimal rule ++ refusedText n
+
 -- a text was put behind the first `at` bytes, and now ends at `next`
 pub record Put (before : List ℕ) (at : ℕ) (text : List ℕ) (next : ℕ) (after : List ℕ) : Type 0 where
   pub ends : next ≡ at + length text

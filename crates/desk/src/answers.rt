@@ -16,6 +16,7 @@ use judge::Ruling;
 use log::Log;
 use reasons::Reason;
 use records::Cells;
+use records::Rule;
 use request::Frame;
 
 // The ordinal of the next line, the request bytes used, where the lines collected end, and whether more is to be read.
@@ -61,6 +62,7 @@ fn answer_next(
     log: &mut Log,
     current: &mut Cells,
     last: &mut u32,
+    rule: Rule,
     ordinal: u64,
     requests: &[u8],
     ended: bool,
@@ -70,13 +72,13 @@ fn answer_next(
     requires { ⌜ 0 < length (now requests) ⌝ }
     requires { ⌜ ordinal + 1 < 2 ^ 64 ⌝ }
     requires { ⌜ at + 136 ≤ length (now out) ⌝ }
-    ensures { λ r. ⌜ Made (oneOf why ended (shown (now (base .entry)) (now (log .entry)) (now (current .entry)) (now (last .entry))) ordinal (now (requests .entry))) (now (out .entry)) at (shown (now (base .exit)) (now (log .exit)) (now (current .exit)) (now (last .exit))) r (now (out .exit)) ⌝ }
+    ensures { λ r. ⌜ Made (oneOf rule why ended (shown (now (base .entry)) (now (log .entry)) (now (current .entry)) (now (last .entry))) ordinal (now (requests .entry))) (now (out .entry)) at (shown (now (base .exit)) (now (log .exit)) (now (current .exit)) (now (last .exit))) r (now (out .exit)) ⌝ }
 {
     let kind = requests[0];
     let frame = request::read(requests);
     match frame {
         Frame::Whole(request) => {
-            let ruling = judge::judge(current, request);
+            let ruling = judge::judge(current, rule, request);
             let reason = reason_of(why, log, *last, ruling);
             let answer = history::act(base, log, current, last, request, ruling);
             let text = line(why, ordinal, kind, answer, reason, out, at);
@@ -106,13 +108,14 @@ pub(crate) fn answer_all(
     log: &mut Log,
     current: &mut Cells,
     last: &mut u32,
+    rule: Rule,
     first: u64,
     requests: &[u8],
     ended: bool,
     out: &mut [u8],
 ) -> Progress
     requires { ⌜ (first + length (now requests) < 2 ^ 64) × (136 * length (now requests) ≤ length (now out)) ⌝ }
-    ensures { λ r. ⌜ Made (allOf why ended (shown (now (base .entry)) (now (log .entry)) (now (current .entry)) (now (last .entry))) first (now (requests .entry))) (now (out .entry)) 0 (shown (now (base .exit)) (now (log .exit)) (now (current .exit)) (now (last .exit))) r (now (out .exit)) ⌝ }
+    ensures { λ r. ⌜ Made (allOf rule why ended (shown (now (base .entry)) (now (log .entry)) (now (current .entry)) (now (last .entry))) first (now (requests .entry))) (now (out .entry)) 0 (shown (now (base .exit)) (now (log .exit)) (now (current .exit)) (now (last .exit))) r (now (out .exit)) ⌝ }
 {
     let mut ordinal = first;
     let mut used: usize = 0;
@@ -128,6 +131,7 @@ pub(crate) fn answer_all(
             log,
             current,
             last,
+            rule,
             ordinal,
             rest,
             ended,

@@ -5,7 +5,7 @@ ghost use mathlib.Core.List.{[]};
 ghost use Prim.Native.Nat.{_+_, _<_, _≤_};
 ghost use lib.ListN.{length};
 ghost use Rattle.io.specs.Counts.{Counts};
-ghost use Rattle.desk.specs.Lines.{hexDigit, middleOf, decimal, numberText, numberPart, kindPart, reasonText, lineOf, refusedText, Put};
+ghost use Rattle.desk.specs.Lines.{hexDigit, middleOf, decimal, numberText, numberPart, kindPart, reasonText, lineOf, refusedText, ruleRefusedText, Put};
 use history::Answer;
 use reasons::Reason;
 
@@ -125,4 +125,15 @@ pub(crate) fn refused(number: u8, out: &mut [u8], at: usize) -> usize
     let a = append(out, at, b": refused ");
     let b = put_decimal(number as u64, out, a);
     append(out, b, b"\n")
+}
+
+// As in `desk: --rule 7: refused 3`.
+pub(crate) fn rule_refused(rule: u32, number: u8, out: &mut [u8]) -> usize
+    requires { ⌜ 64 ≤ length (now out) ⌝ }
+    ensures { λ r. ⌜ Put (now (out .entry)) 0 (ruleRefusedText rule number) r (now (out .exit)) ⌝ }
+    ensures { λ r. ⌜ Counts r (now (out .exit)) ⌝ }
+{
+    let a = append(out, 0, b"desk: --rule ");
+    let b = put_decimal(rule as u64, out, a);
+    refused(number, out, b)
 }

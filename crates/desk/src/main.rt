@@ -16,13 +16,16 @@ ghost use Rattle.desk.specs.Opened.{fileBy, JustOpened};
 ghost use Rattle.desk.specs.Turns.{LedTo};
 use arguments::Arguments;
 use files::Got;
+use history::Answer;
 use image::Written;
 use libc::STDERR_FILENO;
 use libc::STDIN_FILENO;
 use libc::STDOUT_FILENO;
 use log::Log;
+use opening::OpenedImage;
 use opening::Opening;
 use records::Cells;
+use records::Rule;
 
 // The loop only reads, has each piece answered and writes its text: what is printed, what waits and whether to go on is decided in `answer_piece`.
 // No contract can say what is read and written, so the lines that do it are trusted, and tested by runs.
@@ -35,12 +38,13 @@ fn run(
     log: &mut Log,
     current: &mut Cells,
     last: &mut u32,
+    rule: Rule,
     buf: &mut [u8],
     out: &mut [u8],
 )
-    requires { ⌜ JustOpened (shown (now base) (now log) (now current) (now last)) ⌝ }
+    requires { ⌜ JustOpened rule (shown (now base) (now log) (now current) (now last)) ⌝ }
     requires { ⌜ (length (now buf) ≡ 1024) × (length (now out) ≡ 139264) ⌝ }
-    ensures { λ _. ⌜ LedTo why (shown (now (base .entry)) (now (log .entry)) (now (current .entry)) (now (last .entry))) (shown (now (base .exit)) (now (log .exit)) (now (current .exit)) (now (last .exit))) ⌝ }
+    ensures { λ _. ⌜ LedTo rule why (shown (now (base .entry)) (now (log .entry)) (now (current .entry)) (now (last .entry))) (shown (now (base .exit)) (now (log .exit)) (now (current .exit)) (now (last .exit))) ⌝ }
 {
     let mut ordinal: u64 = 1;
     let mut have: usize = 0;
@@ -58,6 +62,7 @@ fn run(
             log,
             current,
             last,
+            rule,
             ordinal,
             buf,
             have,
@@ -108,20 +113,20 @@ fn words() -> Arguments {
 }
 
 // The image of the desk, at the front of a buffer that has room for any.
-fn image_of(current: &Cells, last: u32, out: &mut [u8]) -> usize
-    requires { ⌜ length (now out) ≡ 4453 ⌝ }
-    ensures { λ r. ⌜ take r (now (out .exit)) ≡ imageOf (view (now (current .entry))) last ⌝ }
+fn image_of(current: &Cells, last: u32, rule: Rule, out: &mut [u8]) -> usize
+    requires { ⌜ length (now out) ≡ 4454 ⌝ }
+    ensures { λ r. ⌜ take r (now (out .exit)) ≡ imageOf (view (now (current .entry))) last rule ⌝ }
     ensures { λ r. ⌜ Counts r (now (out .exit)) ⌝ }
 {
-    let Written::Bytes(n) = image::save(current, last, out) else {
+    let Written::Bytes(n) = image::save(current, last, rule, out) else {
         return 0;
     };
     n
 }
 
-fn save_image(word: usize, current: &Cells, last: u32) {
-    let mut image = [0u8; 4453];
-    let n = image_of(current, last, &mut image);
+fn save_image(word: usize, current: &Cells, last: u32, rule: Rule) {
+    let mut image = [0u8; 4454];
+    let n = image_of(current, last, rule, &mut image);
     files::write_image(word, &image[..n]);
 }
 
@@ -134,25 +139,47 @@ fn answer(
     log: &mut Log,
     current: &mut Cells,
     last: &mut u32,
+    rule: Rule,
 )
-    requires { ⌜ JustOpened (shown (now base) (now log) (now current) (now last)) ⌝ }
+    requires { ⌜ JustOpened rule (shown (now base) (now log) (now current) (now last)) ⌝ }
 {
     let mut buf = [0u8; 1024];
     let mut out = text_room();
-    run(why, base, log, current, last, &mut buf, &mut out);
+    run(why, base, log, current, last, rule, &mut buf, &mut out);
     if save != 0 {
-        save_image(save, current, *last);
+        save_image(save, current, *last, rule);
     }
 }
 
-// A desk without records, with the last number already used.
-fn serve_new(why: bool, save: usize, number: u32) {
-    let desk = history::open(number);
+// One line, where the rule's number is none.
+fn tell_rule(rule: u32, number: u8) {
+    let mut line = [0u8; 64];
+    let n = lines::rule_refused(rule, number, &mut line);
+    io::write_all(STDERR_FILENO, &line[..n]);
+}
+
+// A desk without records, with the last number already used, under the rule of that number. Where that is refused it is told, and nothing is answered.
+fn serve_new(why: bool, save: usize, number: u32, rule: u32) {
+    let opened = history::open(number, rule);
+    let answered = opened.answer;
+    let desk = opened.desk;
     let mut base = desk.base;
     let mut log = desk.log;
     let mut current = desk.current;
     let mut last = desk.last;
-    answer(why, save, &mut base, &mut log, &mut current, &mut last);
+    match answered {
+        Answer::Granted => answer(
+            why,
+            save,
+            &mut base,
+            &mut log,
+            &mut current,
+            &mut last,
+            desk.rule,
+        ),
+        Answer::Numbered(_) => {}
+        Answer::Refused(n) => tell_rule(rule, n),
+    }
 }
 
 // One byte more than a file may have that is tried as an image.
@@ -168,11 +195,14 @@ fn open_file(
     log: &mut Log,
     current: &mut Cells,
     last: &mut u32,
-) -> Opening
-    ensures { λ r. ⌜ opensDesk r (shown (now (base .exit)) (now (log .exit)) (now (current .exit)) (now (last .exit))) ≡ fileBy (shown (now (base .entry)) (now (log .entry)) (now (current .entry)) (now (last .entry))) (now (bytes .entry)) ⌝ }
+) -> OpenedImage
+    ensures { λ r. ⌜ opensDesk (r .answer) (shown (now (base .exit)) (now (log .exit)) (now (current .exit)) (now (last .exit))) (r .rule) ≡ fileBy (shown (now (base .entry)) (now (log .entry)) (now (current .entry)) (now (last .entry))) (now (bytes .entry)) ⌝ }
 {
     if 65536 < bytes.len() {
-        return Opening::Refused(15);
+        return OpenedImage {
+            answer: Opening::Refused(15),
+            rule: Rule::One,
+        };
     }
     opening::open_desk(bytes, base, log, current, last)
 }
@@ -183,14 +213,24 @@ fn serve_image(why: bool, save: usize, from: usize) {
     let Got::Bytes(n) = files::read_image(from, &mut image) else {
         return;
     };
-    let desk = history::open(0);
+    let empty = history::open(0, 1);
+    let desk = empty.desk;
     let mut base = desk.base;
     let mut log = desk.log;
     let mut current = desk.current;
     let mut last = desk.last;
-    let opening = open_file(&image[..n], &mut base, &mut log, &mut current, &mut last);
-    match opening {
-        Opening::Opened => answer(why, save, &mut base, &mut log, &mut current, &mut last),
+    let opened = open_file(&image[..n], &mut base, &mut log, &mut current, &mut last);
+    let answered = opened.answer;
+    match answered {
+        Opening::Opened => answer(
+            why,
+            save,
+            &mut base,
+            &mut log,
+            &mut current,
+            &mut last,
+            opened.rule,
+        ),
         Opening::Refused(number) => files::tell_refused(from, number),
     }
 }
@@ -200,7 +240,7 @@ fn main() {
     if arguments::wrong(arguments) {
         io::write_all(
             STDERR_FILENO,
-            b"desk: usage: desk [--last N | --from IMAGE] [--save IMAGE] [--why] <requests >lines\n",
+            b"desk: usage: desk [--last N | --from IMAGE] [--rule R] [--save IMAGE] [--why] <requests >lines\n",
         );
         return;
     }
@@ -210,5 +250,10 @@ fn main() {
         serve_image(why, save, arguments.from);
         return;
     }
-    serve_new(why, save, arguments::last_number(arguments));
+    serve_new(
+        why,
+        save,
+        arguments::last_number(arguments),
+        arguments::rule_number(arguments),
+    );
 }

@@ -7,6 +7,7 @@ ghost use Rattle.desk.specs.Turns.{stand, turn, TurnIs};
 use crate::answers::answer_all;
 use log::Log;
 use records::Cells;
+use records::Rule;
 
 // The ordinal of the next line, how many bytes wait, how many bytes the text has, and whether more is to be read.
 pub(crate) struct Turn {
@@ -37,6 +38,7 @@ pub(crate) fn answer_piece(
     log: &mut Log,
     current: &mut Cells,
     last: &mut u32,
+    rule: Rule,
     ordinal: u64,
     buf: &mut [u8],
     have: usize,
@@ -44,7 +46,7 @@ pub(crate) fn answer_piece(
     out: &mut [u8],
 ) -> Turn
     requires { ⌜ (have + got ≤ length (now buf)) × ((ordinal + (have + got) < 2 ^ 64) × (136 * (have + got) ≤ length (now out))) ⌝ }
-    ensures { λ r. ⌜ TurnIs (turn why (stand (shown (now (base .entry)) (now (log .entry)) (now (current .entry)) (now (last .entry))) ordinal (take have (now (buf .entry)))) (take got (drop have (now (buf .entry))))) (shown (now (base .exit)) (now (log .exit)) (now (current .exit)) (now (last .exit))) r (now (buf .exit)) (now (out .exit)) ⌝ }
+    ensures { λ r. ⌜ TurnIs (turn rule why (stand (shown (now (base .entry)) (now (log .entry)) (now (current .entry)) (now (last .entry))) ordinal (take have (now (buf .entry)))) (take got (drop have (now (buf .entry))))) (shown (now (base .exit)) (now (log .exit)) (now (current .exit)) (now (last .exit))) r (now (buf .exit)) (now (out .exit)) ⌝ }
 {
     let end = have + got;
     let done = answer_all(
@@ -53,6 +55,7 @@ pub(crate) fn answer_piece(
         log,
         current,
         last,
+        rule,
         ordinal,
         &buf[..end],
         got == 0,

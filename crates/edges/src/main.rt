@@ -1,5 +1,5 @@
-// Any batch, run and compared. Standard input has a line a case, `NAME LAST ROOM PLACE REQUESTS`: a desk is opened with the last number LAST, or goes on as
-// the case before left it where that is `+`; ROOM bytes of answer room, each ee; the place the answers start at; the requests in hex, with `_` between them.
+// Any batch, run and compared. Standard input has a line a case, `NAME LAST ROOM PLACE REQUESTS`: a desk is opened with the last number LAST, under rule 1, or
+// where LAST is `N/R` with the last number N under the rule of number R; or it goes on as the case before left it where that is `+`; ROOM bytes of answer room, each ee; the place the answers start at; the requests in hex, with `_` between them.
 // The line written has the name, the stop, the request bytes used, the answer bytes written, the last number then, and every byte of the answer room.
 ghost use Prim.Native.Nat.{_<_, _≤_};
 ghost use lib.ListN.{length};
@@ -7,6 +7,7 @@ use libc::STDIN_FILENO;
 use libc::STDOUT_FILENO;
 use log::Log;
 use records::Cells;
+use records::Rule;
 
 // ---- what is written
 fn say(text: &[u8]) {
@@ -137,12 +138,30 @@ fn hex(word: &[u8], out: &mut [u8]) -> usize
 }
 
 // ---- a case
-// The field LAST: a desk opened with that number. A `+` leaves the desk as it is.
-fn open_anew(word: &[u8], base: &mut Cells, log: &mut Log, current: &mut Cells, last: &mut u32) {
-    if starts(word, b'+') {
-        return;
+// The rule's number, behind the `/` of the field LAST, which is at `end`; 1 where there is none.
+fn rule_number(word: &[u8], end: usize) -> u32 {
+    if end < word.len() {
+        return (decimal(&word[end + 1..]) % 4_294_967_296) as u32;
     }
-    let desk = history::open((decimal(word) % 4_294_967_296) as u32);
+    1
+}
+
+// The field LAST: a desk opened with that number, and under that rule, which is the answer. A `+` leaves the desk as it is.
+fn open_anew(
+    word: &[u8],
+    base: &mut Cells,
+    log: &mut Log,
+    current: &mut Cells,
+    last: &mut u32,
+    rule: Rule,
+) -> Rule {
+    if starts(word, b'+') {
+        return rule;
+    }
+    let end = end_at(word, 0, b'/');
+    let number = (decimal(&word[..end]) % 4_294_967_296) as u32;
+    let opened = history::open(number, rule_number(word, end));
+    let desk = opened.desk;
     let empty = desk.base;
     let none = desk.log;
     let same = desk.current;
@@ -150,6 +169,7 @@ fn open_anew(word: &[u8], base: &mut Cells, log: &mut Log, current: &mut Cells, 
     *log = none;
     *current = same;
     *last = desk.last;
+    desk.rule
 }
 
 // Runs the batch, and writes what it left.
@@ -158,11 +178,12 @@ fn run_batch(
     log: &mut Log,
     current: &mut Cells,
     last: &mut u32,
+    rule: Rule,
     requests: &[u8],
     answers: &mut [u8],
     place: usize,
 ) {
-    let ran = batch::run(base, log, current, last, requests, answers, place);
+    let ran = batch::run(base, log, current, last, rule, requests, answers, place);
     let stop = ran.stop;
     number(batch::stop_number(stop) as u64);
     number(ran.used as u64);
@@ -172,7 +193,14 @@ fn run_batch(
 }
 
 // The fields ROOM, PLACE and REQUESTS. Of more than 4,096 bytes the first are taken.
-fn run_fields(fields: &[u8], base: &mut Cells, log: &mut Log, current: &mut Cells, last: &mut u32) {
+fn run_fields(
+    fields: &[u8],
+    base: &mut Cells,
+    log: &mut Log,
+    current: &mut Cells,
+    last: &mut u32,
+    rule: Rule,
+) {
     let behind_room = behind(fields);
     let mut requests = [0u8; 4096];
     let n = hex(first(behind(behind_room)), &mut requests);
@@ -184,25 +212,34 @@ fn run_fields(fields: &[u8], base: &mut Cells, log: &mut Log, current: &mut Cell
         log,
         current,
         last,
+        rule,
         &requests[..n],
         &mut answers[..size],
         place,
     );
 }
 
-// An empty line, and one that starts with `#`, is no case.
-fn case(line: &[u8], base: &mut Cells, log: &mut Log, current: &mut Cells, last: &mut u32) {
+// An empty line, and one that starts with `#`, is no case. The answer is the desk's rule, for the case behind this one.
+fn case(
+    line: &[u8],
+    base: &mut Cells,
+    log: &mut Log,
+    current: &mut Cells,
+    last: &mut u32,
+    rule: Rule,
+) -> Rule {
     if line.len() == 0 {
-        return;
+        return rule;
     }
     if starts(line, b'#') {
-        return;
+        return rule;
     }
     let behind_name = behind(line);
-    open_anew(first(behind_name), base, log, current, last);
+    let opened = open_anew(first(behind_name), base, log, current, last, rule);
     say(first(line));
-    run_fields(behind(behind_name), base, log, current, last);
+    run_fields(behind(behind_name), base, log, current, last, opened);
     say(b"\n");
+    opened
 }
 
 // The desk's parts are lent to each case, so that no table is copied.
@@ -211,15 +248,17 @@ fn cases(input: &[u8]) {
     let mut log = [0u8; 418];
     let mut current = [0u32; 1858];
     let mut last: u32 = 0;
+    let mut rule = Rule::One;
     let mut at: usize = 0;
     while at < input.len() {
         let end = end_at(input, at, b'\n');
-        case(
+        rule = case(
             &input[at..end],
             &mut base,
             &mut log,
             &mut current,
             &mut last,
+            rule,
         );
         at = end + 1;
     }
@@ -229,7 +268,9 @@ fn cases(input: &[u8]) {
 // The stop of a batch over these bytes, 0 to 13.
 fn stop_of(requests: &[u8]) -> u8 {
     let mut answers = [0u8; 5];
-    let ran = batch::run_desk(history::open(0), requests, &mut answers, 0);
+    let opened = history::open(0, 1);
+    let desk = opened.desk;
+    let ran = batch::run_desk(desk, requests, &mut answers, 0);
     let report = ran.ran;
     let stop = report.stop;
     batch::stop_number(stop)

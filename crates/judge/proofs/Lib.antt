@@ -2,3 +2,4 @@
 pub mod Order
 pub mod Sound
 pub mod Compared
+pub mod Amended

@@ -1,12 +1,13 @@
 // Both sides of each line of 01's refusal table, for each kind and each refusal of the judge. Standard input has a line a case: a letter for the house,
-// the request in hex with its fields apart, and a word. The line written for it has the kind, the word and the ruling: C0 and n added, refused with n; 80,
-// granted; 81, granted with a number; 20, a change may be taken back.
+// which is a capital where the desk is under rule 2, the request in hex with its fields apart, and a word. The line written for it has the kind, the word and
+// the ruling: C0 and n added, refused with n; 80, granted; 81, granted with a number; 20, a change may be taken back.
 ghost use Prim.Native.Nat.{_<_};
 use judge::Ruling;
 use libc::STDIN_FILENO;
 use libc::STDOUT_FILENO;
 use records::Cells;
 use records::Draft;
+use records::Rule;
 use records::Script;
 use records::Session;
 use records::User;
@@ -75,7 +76,7 @@ fn daily_users(records: &mut Cells) {
     records::put_rooms(records, 6);
 }
 
-// Scripts 0, 4 and 5 are the house's, 1 and 2 room 1's, 3 room 2's. Drafts 1, 2 and 3 of script 0 are in the house, in house and room 1, in room 1 alone.
+// Scripts 0 and 4 to 8 are the house's, 1 and 2 room 1's, 3 room 2's. Drafts 1, 2 and 3 of script 0 are in the house, in house and room 1, in room 1 alone.
 fn daily_texts(records: &mut Cells) {
     records::put_script(records, 0, script(2, 1, 0));
     records::put_script(records, 1, script(2, 1, 1));
@@ -83,6 +84,9 @@ fn daily_texts(records: &mut Cells) {
     records::put_script(records, 3, script(2, 1, 2));
     records::put_script(records, 4, script(2, 3, 0));
     records::put_script(records, 5, script(3, 3, 0));
+    records::put_script(records, 6, script(3, 1, 0));
+    records::put_script(records, 7, script(2, 0, 0));
+    records::put_script(records, 8, script(2, 2, 0));
     records::add_draft(records, draft(1, 0, 1));
     records::add_draft(records, draft(2, 0, 3));
     records::add_draft(records, draft(3, 0, 2));
@@ -91,6 +95,9 @@ fn daily_texts(records: &mut Cells) {
     records::add_draft(records, draft(6, 3, 4));
     records::add_draft(records, draft(7, 4, 1));
     records::add_draft(records, draft(8, 5, 1));
+    records::add_draft(records, draft(9, 6, 1));
+    records::add_draft(records, draft(10, 7, 1));
+    records::add_draft(records, draft(11, 8, 1));
 }
 
 // Sessions 0 and 6 write in the house, 2, 4 and 5 in room 1; 1 and 3 are RO, of user 0 and of user 3.
@@ -104,13 +111,13 @@ fn daily_sessions(records: &mut Cells) {
     records::put_session(records, 6, writer(1, 3, 3, 0));
 }
 
-// The daily house, with script 0's drafts from 9 up to the one before `end` beside its own 8.
+// The daily house, with script 0's drafts from 12 up to the one before `end` beside its own 11.
 fn daily(end: u32) -> Cells {
     let mut records = [0u32; 1858];
     daily_users(&mut records);
     daily_texts(&mut records);
     daily_sessions(&mut records);
-    for number in 9..end {
+    for number in 12..end {
         records::add_draft(&mut records, draft(number, 0, 1));
     }
     records
@@ -142,7 +149,7 @@ fn edge() -> Cells {
 // d the daily house, a and f with 255 and 256 live drafts, e the last of each range; any other letter no records.
 fn house(letter: u8) -> Cells {
     if letter == b'd' {
-        return daily(9);
+        return daily(12);
     }
     if letter == b'a' {
         return daily(256);
@@ -198,15 +205,24 @@ fn answer(ruling: Ruling) -> u8 {
     }
 }
 
+fn rule_by(letter: u8) -> Rule {
+    if letter < b'a' { Rule::Two } else { Rule::One }
+}
+
+fn small(letter: u8) -> u8 {
+    if letter < b'a' { letter + 32 } else { letter }
+}
+
 // The first n bytes of a frame judged. What is no request is a mistake of the case: 00.
 fn ruled(letter: u8, frame: &[u8], n: usize) -> u8 {
     if frame.len() < n {
         return 0;
     }
     let read = request::read(&frame[..n]);
-    let records = house(letter);
+    let records = house(small(letter));
+    let rule = rule_by(letter);
     match read {
-        Frame::Whole(request) => answer(judge::judge(&records, request)),
+        Frame::Whole(request) => answer(judge::judge(&records, rule, request)),
         Frame::Unknown => 0,
         Frame::Cut => 0,
     }

@@ -6,10 +6,10 @@ use Rattle.edges.proofs.cases.Statement.{statement}
 use Rattle.edges.proofs.cases.Tie as tie
 
 abbrev Inv-loop : tie.InvT-loop
-Inv-loop input base₀ log₀ current₀ last₀ at₀ base log current last at = Unit {0}
+Inv-loop input base₀ log₀ current₀ last₀ rule₀ at₀ base log current last rule at = Unit {0}
 
 abbrev μ-loop : tie.MeasureT-loop
-μ-loop input base₀ log₀ current₀ last₀ at₀ base log current last at = length input - at
+μ-loop input base₀ log₀ current₀ last₀ rule₀ at₀ base log current last rule at = length input - at
 
 pub cases-spec : {M : Type 1} → statement M
 cases-spec =

@@ -6,7 +6,7 @@ use Rattle.lines.proofs.daily.Statement.{statement}
 use Rattle.lines.proofs.daily.Tie as tie
 
 abbrev Inv-loop : tie.InvT-loop
-Inv-loop end records₀ number₀ records number = 9 ≤ number
+Inv-loop end records₀ number₀ records number = 12 ≤ number
 
 abbrev μ-loop : tie.MeasureT-loop
 μ-loop end records₀ number₀ records number = end - number
