@@ -3,7 +3,7 @@ mod numbers;
 
 ghost use mathlib.Core.Path.{_≡_};
 ghost use Rattle.arguments.specs.Arguments.{none as Arguments·none, same as Arguments·same, named as Arguments·named};
-ghost use Rattle.arguments.specs.Arguments.{asks, takeWord, valueWanted, wrong as Arguments·wrong, lastNumber};
+ghost use Rattle.arguments.specs.Arguments.{asks, takeWord, valueWanted, wrong as Arguments·wrong, lastNumber, ruleNumber};
 ghost use Rattle.arguments.specs.Numbers.{given as Numbers·given, numberOr};
 use numbers::number_of;
 
@@ -11,6 +11,7 @@ use numbers::number_of;
 pub enum Next {
     Argument,
     Last,
+    Rule,
     From,
     Save,
 }
@@ -27,6 +28,7 @@ pub struct Arguments {
     pub next: Next,
     pub why: bool,
     pub last: Number,
+    pub rule: Number,
     pub from: usize,
     pub save: usize,
 }
@@ -40,6 +42,7 @@ pub fn none() -> Arguments
         next: Next::Argument,
         why: false,
         last: Number::Nothing,
+        rule: Number::Nothing,
         from: 0,
         save: 0,
     }
@@ -65,6 +68,7 @@ fn same(a: &[u8], b: &[u8]) -> bool
 enum Word {
     Why,
     Last,
+    Rule,
     From,
     Save,
     Unknown,
@@ -78,6 +82,9 @@ fn named(word: &[u8]) -> Word
     }
     if same(word, b"--last") {
         return Word::Last;
+    }
+    if same(word, b"--rule") {
+        return Word::Rule;
     }
     if same(word, b"--from") {
         return Word::From;
@@ -102,6 +109,7 @@ fn ask(arguments: Arguments, word: Word) -> Arguments
     ensures { λ r. ⌜ r ≡ asks arguments word ⌝ }
 {
     let last = arguments.last;
+    let rule = arguments.rule;
     match word {
         Word::Why => Arguments {
             usage: arguments.usage | arguments.why,
@@ -111,6 +119,11 @@ fn ask(arguments: Arguments, word: Word) -> Arguments
         Word::Last => Arguments {
             usage: arguments.usage | given(last),
             next: Next::Last,
+            ..arguments
+        },
+        Word::Rule => Arguments {
+            usage: arguments.usage | given(rule),
+            next: Next::Rule,
             ..arguments
         },
         Word::From => Arguments {
@@ -146,6 +159,15 @@ pub fn take_word(arguments: Arguments, at: usize, word: &[u8]) -> Arguments
                 ..arguments
             }
         }
+        Next::Rule => {
+            let number = number_of(word);
+            Arguments {
+                usage: arguments.usage | !given(number),
+                next: Next::Argument,
+                rule: number,
+                ..arguments
+            }
+        }
         Next::From => Arguments {
             next: Next::Argument,
             from: at,
@@ -165,6 +187,7 @@ fn value_wanted(next: Next) -> bool
     match next {
         Next::Argument => false,
         Next::Last => true,
+        Next::Rule => true,
         Next::From => true,
         Next::Save => true,
     }
@@ -176,7 +199,8 @@ pub fn wrong(arguments: Arguments) -> bool
 {
     let next = arguments.next;
     let last = arguments.last;
-    arguments.usage | value_wanted(next) | (given(last) & (arguments.from != 0))
+    let rule = arguments.rule;
+    arguments.usage | value_wanted(next) | ((given(last) | given(rule)) & (arguments.from != 0))
 }
 
 // The number of an argument, or what goes for it where it was not given.
@@ -195,4 +219,12 @@ pub fn last_number(arguments: Arguments) -> u32
 {
     let last = arguments.last;
     number_or(last, 0)
+}
+
+// The number of the rule that a new desk is opened with, also one that no rule has.
+pub fn rule_number(arguments: Arguments) -> u32
+    ensures { λ r. ⌜ r ≡ ruleNumber arguments ⌝ }
+{
+    let rule = arguments.rule;
+    number_or(rule, 1)
 }

@@ -13,7 +13,7 @@ returns-2 c =
 
 returns-3 : tie.Need-returns-3
 returns-3 c =
-    rw (c .before .before .enum-told3 .given .1)
+    rw (c .before .before .enum-told3 .given .1, c .before .given2 .ensures)
 
 returns-4 : tie.Need-returns-4
 returns-4 c =
@@ -21,8 +21,12 @@ returns-4 c =
 
 returns-5 : tie.Need-returns-5
 returns-5 c =
-    rw (c .enum-told5 .given .1)
+    rw (c .before .before .enum-told5 .given .1)
+
+returns-6 : tie.Need-returns-6
+returns-6 c =
+    rw (c .enum-told6 .given .1)
 
 pub ask-spec : {M : Type 1} → statement M
 ask-spec =
-    tie.close (tie.spec (λ c. search needs) (λ c. search needs) (λ c κs. search needs) (λ c. search needs) (λ c. search needs) (λ c. search needs) returns returns-2 returns-3 returns-4 returns-5)
+    tie.close (tie.spec (λ c. search needs) (λ c. search needs) (λ c κs. search needs) (λ c. search needs) (λ c κs. search needs) (λ c. search needs) (λ c. search needs) (λ c. search needs) returns returns-2 returns-3 returns-4 returns-5 returns-6)

@@ -19,12 +19,16 @@ returns-2 c =
 
 returns-3 : tie.Need-returns-3
 returns-3 c =
-    rw (c .enum-told3 .given .1)
+    rw (c .before .before .before .enum-told3 .given .1, c .before .given2 .ensures, c .before .before .number-of2 .ensures)
 
 returns-4 : tie.Need-returns-4
 returns-4 c =
     rw (c .enum-told4 .given .1)
 
+returns-5 : tie.Need-returns-5
+returns-5 c =
+    rw (c .enum-told5 .given .1)
+
 pub take-word-spec : {M : Type 1} → statement M
 take-word-spec =
-    tie.close (tie.spec (λ c. search needs) (λ c κs. search needs) (λ c κs. search needs) (λ c. search needs) (λ c κs. search needs) (λ c κs. search needs) (λ c. search needs) (λ c. search needs) returns returns-2 returns-3 returns-4)
+    tie.close (tie.spec (λ c. search needs) (λ c κs. search needs) (λ c κs. search needs) (λ c. search needs) (λ c κs. search needs) (λ c κs. search needs) (λ c. search needs) (λ c κs. search needs) (λ c κs. search needs) (λ c. search needs) (λ c. search needs) returns returns-2 returns-3 returns-4 returns-5)
