@@ -1,13 +1,15 @@
--- How long an image is: at most 5 bytes of the counter, 15 of each of 64 users, 2 of 16 rooms, 6 of 64 scripts, 8 of 64 sessions, 10 of 256 drafts.
+-- How long an image is: at most 5 bytes of the counter, 1 of the rule, 15 of each of 64 users, 2 of 16 rooms, 6 of 64 scripts, 8 of 64 sessions, 10 of 256 drafts.
 use Prim.Native.Nat.{ℕ, suc, _*_, _≤_}
+use mathlib.Core.Path.{refl}
 use mathlib.Core.List.{List, [], _∷_, _++_}
 use native.Mathlib.Omega.{arith}
 use native.Mathlib.Nat.{mul-suc, mul-le-mul-left}
 use lib.ListN.{length, length-append}
 use Rattle.records.specs.House.{view}
-use Rattle.image.specs.Forms.{written, listed}
-use Rattle.image.specs.Image.{counterForm, imageOf}
-use Rattle.image.proofs.Plans.{Plan, userPlan, roomPlan, scriptPlan, sessionPlan, draftPlan}
+use Rattle.records.specs.declared.Rule.{Rule}
+use Rattle.image.specs.Forms.{written, writtenIf, listed}
+use Rattle.image.specs.Image.{counterForm, ruleForm, isTwo, imageOf}
+use Rattle.image.proofs.Plans.{wide-if, Plan, userPlan, roomPlan, scriptPlan, sessionPlan, draftPlan}
 
 abbrev part : {A : Type 0} → Plan A → List ℕ
 part P = listed (P .bytes) 0 (P .list)
@@ -22,11 +24,12 @@ module _ {A : Type 0} (P : Plan A) where
   part-length : length (part P) ≤ P .width * P .count
   part-length = omega (arith, listed-length 0 (P .list), mul-le-mul-left (P .width) (P .most))
 
--- of any cells and any last number
-pub image-length : (s : List ℕ) (last : ℕ) → length (imageOf (view s) last) ≤ 4453
+-- of any cells, any last number and either rule
+pub image-length : (s : List ℕ) (last : ℕ) (rule : Rule) → length (imageOf (view s) last rule) ≤ 4454
 unfolding imageOf
-image-length s last =
+image-length s last rule =
     let c = written counterForm 0 last in
+    let q = writtenIf ruleForm isTwo 0 rule in
     let u = part (userPlan s) in
     let r = part (roomPlan s) in
     let t = part (scriptPlan s) in
@@ -34,11 +37,13 @@ image-length s last =
     let d = part (draftPlan s) in
     omega (
       arith,
-      length-append (c ++ u ++ r ++ t ++ e) d,
-      length-append (c ++ u ++ r ++ t) e,
-      length-append (c ++ u ++ r) t,
-      length-append (c ++ u) r,
-      length-append c u,
+      length-append (c ++ q ++ u ++ r ++ t ++ e) d,
+      length-append (c ++ q ++ u ++ r ++ t) e,
+      length-append (c ++ q ++ u ++ r) t,
+      length-append (c ++ q ++ u) r,
+      length-append (c ++ q) u,
+      length-append c q,
+      wide-if ruleForm isTwo 1 (λ i r. refl) 0 rule,
       part-length (userPlan s),
       part-length (roomPlan s),
       part-length (scriptPlan s),

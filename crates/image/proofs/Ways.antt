@@ -9,6 +9,7 @@ use lib.ListN.{length, take, drop, length-take}
 use lib.Seq.{take-length, take-at}
 use borrow.Author.Tests.{le-leb, lt-leb, leb-false}
 use Rattle.records.specs.House.{view}
+use Rattle.records.specs.declared.Rule.{Rule}
 use Rattle.image.specs.Image.{imageOf}
 use Rattle.image.specs.Puts.{Put}
 use Rattle.image.specs.Saving.{savedAnswer, savedBuffer}
@@ -61,6 +62,6 @@ module _ (i out : List ℕ) where
       go true l e = absurd (let z : _≡_ {A = ℕ} 0 1 = cc in omega arith)
       go false l e = leb-false (length i) (length out) l
 
--- a buffer of 4453 bytes is never too small
-pub never-refused : (s : List ℕ) (last : ℕ) (out : List ℕ) (why : ℕ) → 4453 ≤ length out → Refused why ≡ savedAnswer (imageOf (view s) last) out → ⊥
-never-refused s last out why h e = omega (arith, longer (imageOf (view s) last) out why e, image-length s last)
+-- a buffer of 4454 bytes is never too small
+pub never-refused : (s : List ℕ) (last : ℕ) (rule : Rule) (out : List ℕ) (why : ℕ) → 4454 ≤ length out → Refused why ≡ savedAnswer (imageOf (view s) last rule) out → ⊥
+never-refused s last rule out why h e = omega (arith, longer (imageOf (view s) last rule) out why e, image-length s last rule)

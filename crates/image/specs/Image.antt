@@ -1,8 +1,8 @@
 -- The image of a desk. 02, L2: "Write the desk into a lent buffer as records of one kind byte and a fixed body: 40 the counter, 41 user, 42 room, 43 script, 44 session,
 -- 45 draft, in that order and ascending by id or number, each with its id or number, then 01's fields in 01's order (numbers and sets four bytes, categories
--- two, the rest one)."
+-- two, the rest one)." L3: "a kind 46 record, directly after the counter, stands exactly when the rule is 2; it has no body, and an image without it is rule 1."
 use Prim.Native.Nat.{ℕ}
-use mathlib.Core.Bool.{true}
+use mathlib.Core.Bool.{Bool, true, false}
 use mathlib.Core.List.{List, [], _∷_, _++_}
 use Rattle.records.specs.Places.{has, roomNumbers}
 use Rattle.records.specs.House.{House, asNumber, isYes}
@@ -10,6 +10,7 @@ use Rattle.records.specs.declared.User.{User}
 use Rattle.records.specs.declared.Script.{Script}
 use Rattle.records.specs.declared.Session.{Session}
 use Rattle.records.specs.declared.Draft.{Draft}
+use Rattle.records.specs.declared.Rule.{Rule}
 use Rattle.image.specs.Forms.{one, two, four, Form, written, writtenIf, listed}
 
 -- the last number used
@@ -20,6 +21,20 @@ counterForm = record {
   fields = λ _ last. last ∷ [];
   of = λ f. f 0;
 }
+
+-- "a kind 46 record .. has no body": it can only say rule 2
+abbrev pub ruleForm : Form Rule
+ruleForm = record {
+  kind = 0x46;
+  widths = [];
+  fields = λ _ _. [];
+  of = λ _. Rule.Two;
+}
+
+-- "stands exactly when the rule is 2"
+abbrev pub isTwo : Rule → Bool
+isTwo Rule.One = false
+isTwo Rule.Two = true
 
 -- "Users 0..63, each with sort .., level, categories, rooms joined, rooms led, house administrator yes or no"
 abbrev pub userForm : Form User
@@ -66,10 +81,11 @@ draftForm = record {
   of = λ f. record { number = f 0; script = f 1; places = f 2 };
 }
 
--- the image of the records h and the last number; users, scripts and sessions stand in the order of their ids, drafts in that of their numbers
-unfoldable pub imageOf : House → ℕ → List ℕ
-imageOf h last =
+-- the image of the records h, the last number and the rule; users, scripts and sessions stand in the order of their ids, drafts in that of their numbers
+unfoldable pub imageOf : House → ℕ → Rule → List ℕ
+imageOf h last rule =
     written counterForm 0 last
+    ++ writtenIf ruleForm isTwo 0 rule
     ++ listed (writtenIf userForm (λ u. u .here)) 0 (h .users)
     ++ listed (writtenIf roomForm (has (h .rooms))) 0 roomNumbers
     ++ listed (writtenIf scriptForm (λ s. s .here)) 0 (h .scripts)

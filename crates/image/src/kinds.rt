@@ -1,8 +1,9 @@
 // The records of an image, one function a kind: the kind byte, then the fields, the most significant byte first.
 ghost use mathlib.Core.Path.{_≡_};
 ghost use Rattle.records.specs.House.{asNumber};
+ghost use Rattle.records.specs.declared.Rule.{Rule};
 ghost use Rattle.image.specs.Forms.{written};
-ghost use Rattle.image.specs.Image.{counterForm, userForm, roomForm, scriptForm, sessionForm, draftForm};
+ghost use Rattle.image.specs.Image.{counterForm, ruleForm, userForm, roomForm, scriptForm, sessionForm, draftForm};
 use records::Draft;
 use records::Script;
 use records::Session;
@@ -24,6 +25,12 @@ pub(crate) fn counter_bytes(last: u32) -> [u8; 5]
         (last / 256 % 256) as u8,
         (last % 256) as u8,
     ]
+}
+
+pub(crate) fn rule_bytes() -> [u8; 1]
+    ensures { λ r. ⌜ r ≡ written ruleForm 0 Rule.Two ⌝ }
+{
+    [0x46]
 }
 
 pub(crate) fn user_bytes(i: u8, user: User) -> [u8; 15]

@@ -1,18 +1,21 @@
-// The tables laid one behind the other, each by a loop that writes the record of each element that is there.
+// The counter, the rule and the tables laid one behind the other, each by a loop that writes the record of each element that is there.
+ghost use mathlib.Core.List.{_++_};
 ghost use lib.ListN.{length};
 ghost use Prim.Native.Nat.{_+_, _≤_};
 ghost use Rattle.records.specs.House.{view};
 ghost use Rattle.records.specs.Places.{has, roomNumbers};
 ghost use Rattle.image.specs.Forms.{written, writtenIf, listed};
-ghost use Rattle.image.specs.Image.{userForm, roomForm, scriptForm, sessionForm, draftForm, imageOf};
+ghost use Rattle.image.specs.Image.{counterForm, ruleForm, isTwo, userForm, roomForm, scriptForm, sessionForm, draftForm, imageOf};
 ghost use Rattle.image.specs.Puts.{Put, Laid};
 use crate::kinds::counter_bytes;
 use crate::kinds::draft_bytes;
 use crate::kinds::room_bytes;
+use crate::kinds::rule_bytes;
 use crate::kinds::script_bytes;
 use crate::kinds::session_bytes;
 use crate::kinds::user_bytes;
 use records::Cells;
+use records::Rule;
 
 // The bytes go behind the first `at` of out; the answer is where they end.
 fn put(out: &mut [u8], at: usize, text: &[u8]) -> usize
@@ -20,6 +23,29 @@ fn put(out: &mut [u8], at: usize, text: &[u8]) -> usize
     ensures { λ r. ⌜ Put (now (out .entry)) at (now (text .entry)) r (now (out .exit)) ⌝ }
 {
     at + bytes::copy(text, &mut out[at..])
+}
+
+fn lay_rule(rule: Rule, out: &mut [u8], at: usize) -> usize
+    requires { ⌜ at + 1 ≤ length (now out) ⌝ }
+    ensures { λ r. ⌜ Laid 1 (now (out .entry)) at (writtenIf ruleForm isTwo 0 rule) r (now (out .exit)) ⌝ }
+{
+    match rule {
+        Rule::One => at,
+        Rule::Two => {
+            let text = rule_bytes();
+            put(out, at, &text)
+        }
+    }
+}
+
+// The counter, and the rule directly after it.
+fn lay_head(last: u32, rule: Rule, out: &mut [u8]) -> usize
+    requires { ⌜ 6 ≤ length (now out) ⌝ }
+    ensures { λ r. ⌜ Laid 6 (now (out .entry)) 0 (written counterForm 0 last ++ writtenIf ruleForm isTwo 0 rule) r (now (out .exit)) ⌝ }
+{
+    let text = counter_bytes(last);
+    let counter = put(out, 0, &text);
+    lay_rule(rule, out, counter)
 }
 
 fn lay_users(records: &Cells, out: &mut [u8], at: usize) -> usize
@@ -101,13 +127,12 @@ fn lay_drafts(records: &Cells, out: &mut [u8], at: usize) -> usize
 }
 
 // The image goes to the front of a buffer that has room for any.
-pub(crate) fn lay(records: &Cells, last: u32, out: &mut [u8]) -> usize
-    requires { ⌜ 4453 ≤ length (now out) ⌝ }
-    ensures { λ r. ⌜ Laid 4453 (now (out .entry)) 0 (imageOf (view (now (records .entry))) last) r (now (out .exit)) ⌝ }
+pub(crate) fn lay(records: &Cells, last: u32, rule: Rule, out: &mut [u8]) -> usize
+    requires { ⌜ 4454 ≤ length (now out) ⌝ }
+    ensures { λ r. ⌜ Laid 4454 (now (out .entry)) 0 (imageOf (view (now (records .entry))) last rule) r (now (out .exit)) ⌝ }
 {
-    let text = counter_bytes(last);
-    let counter = put(out, 0, &text);
-    let users = lay_users(records, out, counter);
+    let head = lay_head(last, rule, out);
+    let users = lay_users(records, out, head);
     let rooms = lay_rooms(records, out, users);
     let scripts = lay_scripts(records, out, rooms);
     let sessions = lay_sessions(records, out, scripts);

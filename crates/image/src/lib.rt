@@ -1,4 +1,4 @@
-// The image of a desk: its records and last number as bytes, written into a lent buffer.
+// The image of a desk: its records, last number and rule as bytes, written into a lent buffer.
 mod kinds;
 mod laying;
 
@@ -8,6 +8,7 @@ ghost use Rattle.image.specs.Image.{imageOf};
 ghost use Rattle.image.specs.Saving.{savedAnswer, savedBuffer};
 use laying::lay;
 use records::Cells;
+use records::Rule;
 
 // How many bytes the image has, which now stand at the start of the buffer; or refused: 14, the buffer is too small, and as it was.
 pub enum Written {
@@ -16,11 +17,11 @@ pub enum Written {
 }
 
 // The image is laid aside first, where any has room, and then copied where it fits.
-pub fn save(records: &Cells, last: u32, out: &mut [u8]) -> Written
-    ensures { λ r. ⌜ (r ≡ savedAnswer (imageOf (view (now (records .entry))) last) (now (out .entry))) × (now (out .exit) ≡ savedBuffer (imageOf (view (now (records .entry))) last) (now (out .entry))) ⌝ }
+pub fn save(records: &Cells, last: u32, rule: Rule, out: &mut [u8]) -> Written
+    ensures { λ r. ⌜ (r ≡ savedAnswer (imageOf (view (now (records .entry))) last rule) (now (out .entry))) × (now (out .exit) ≡ savedBuffer (imageOf (view (now (records .entry))) last rule) (now (out .entry))) ⌝ }
 {
-    let mut aside = [0u8; 4453];
-    let n = lay(records, last, &mut aside);
+    let mut aside = [0u8; 4454];
+    let n = lay(records, last, rule, &mut aside);
     if out.len() < n {
         return Written::Refused(14);
     }

@@ -12,42 +12,47 @@ use Rattle.records.specs.declared.User.{User}
 use Rattle.records.specs.declared.Script.{Script}
 use Rattle.records.specs.declared.Session.{Session}
 use Rattle.records.specs.declared.Draft.{Draft}
+use Rattle.records.specs.declared.Rule.{Rule}
 use Rattle.image.specs.Forms.{Width, sizes, fieldsAt, Form}
-use Rattle.image.specs.Image.{counterForm, userForm, roomForm, scriptForm, sessionForm, draftForm}
+use Rattle.image.specs.Image.{counterForm, ruleForm, userForm, roomForm, scriptForm, sessionForm, draftForm}
 use Rattle.reader.specs.declared.Length.{Length}
 use Rattle.reader.specs.declared.Length.the-variants.{Known, Unknown}
 use Rattle.reader.specs.declared.Walk.{Walk}
 
--- what an image holds: the records, and the last number used
+-- what an image holds: the records, the last number used, and the rule
 pub record Saved : Type 0 where
   pub house : House
   pub last : ℕ
+  pub rule : Rule
 
-abbrev pub saved : House → ℕ → Saved
-saved h n = record { house = h; last = n }
+abbrev pub saved : House → ℕ → Rule → Saved
+saved h n rule = record { house = h; last = n; rule = rule }
 
--- "the empty desk with last number 0"
+-- 02, L3: "the empty desk with last number 0 and rule 1"
 abbrev pub blank : Saved
-blank = saved emptyHouse 0
+blank = saved emptyHouse 0 Rule.One
 
 -- ---- a record of each kind, put to what was taken in before, whatever that is
 abbrev pub takeCounter : ℕ → ℕ → Saved → Saved
-takeCounter _ n s = saved (s .house) n
+takeCounter _ n s = saved (s .house) n (s .rule)
+
+abbrev pub takeRule : ℕ → Rule → Saved → Saved
+takeRule _ rule s = saved (s .house) (s .last) rule
 
 abbrev pub takeUser : ℕ → User → Saved → Saved
-takeUser i u s = saved (putUser (s .house) i u) (s .last)
+takeUser i u s = saved (putUser (s .house) i u) (s .last) (s .rule)
 
 abbrev pub takeRoom : ℕ → ℕ → Saved → Saved
-takeRoom _ room s = saved (putRooms (s .house) (with (s .house .rooms) room)) (s .last)
+takeRoom _ room s = saved (putRooms (s .house) (with (s .house .rooms) room)) (s .last) (s .rule)
 
 abbrev pub takeScript : ℕ → Script → Saved → Saved
-takeScript i x s = saved (putScript (s .house) i x) (s .last)
+takeScript i x s = saved (putScript (s .house) i x) (s .last) (s .rule)
 
 abbrev pub takeSession : ℕ → Session → Saved → Saved
-takeSession i x s = saved (putSession (s .house) i x) (s .last)
+takeSession i x s = saved (putSession (s .house) i x) (s .last) (s .rule)
 
 abbrev pub takeDraft : ℕ → Draft → Saved → Saved
-takeDraft _ d s = saved (addDraft (s .house) d) (s .last)
+takeDraft _ d s = saved (addDraft (s .house) d) (s .last) (s .rule)
 
 -- a kind: its fields' widths, and how the record with those fields is taken in; its id is the first field
 pub record Row : Type 0 where
@@ -61,6 +66,7 @@ row form put = record { kind = form .kind; widths = form .widths; put = λ f s. 
 abbrev pub rows : List Row
 rows =
     row counterForm takeCounter
+    ∷ row ruleForm takeRule
     ∷ row userForm takeUser
     ∷ row roomForm takeRoom
     ∷ row scriptForm takeScript

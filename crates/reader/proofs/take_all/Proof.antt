@@ -5,22 +5,23 @@ use mathlib.Core.Path.{_≡_, sym, ap, _∙_}
 use native.Mathlib.Omega.{arith}
 use lib.ListN.{length, drop}
 use Rattle.records.specs.House.{House, view}
+use Rattle.records.specs.declared.Rule.{Rule}
 use Rattle.reader.specs.Reading.{Saved, saved, blank, walked}
 use Rattle.reader.proofs.Walking.{unknown-here, cut-here, whole-here, at-end, part-all}
 use Rattle.reader.proofs.take_all.Statement.{statement}
 use Rattle.reader.proofs.take_all.Tie as tie
 
 abbrev Inv-frames : tie.InvT-frames
-Inv-frames image records₀ last₀ at₀ records last at =
-    (at ≤ length image) × (walked 0 blank image ≡ walked 0 (saved (view records) last) (drop at image))
+Inv-frames image records₀ last₀ rule₀ at₀ records last rule at =
+    (at ≤ length image) × (walked 0 blank image ≡ walked 0 (saved (view records) last rule) (drop at image))
 
 abbrev μ-frames : tie.MeasureT-frames
-μ-frames image records₀ last₀ at₀ records last at = length image - at
+μ-frames image records₀ last₀ rule₀ at₀ records last rule at = length image - at
 
 frames-holds : tie.Need-frames-holds Inv-frames μ-frames
 frames-holds c =
     let b = c .before .before .before .args .image .now in
-    (omega arith, ap (λ (h : House). walked 0 (saved h 0) b) (sym (c .clear .ensures)))
+    (omega arith, ap (λ (h : House). walked 0 (saved h 0 Rule.One) b) (sym (c .clear .ensures)))
 
 returns : tie.Need-returns Inv-frames μ-frames
 returns c =

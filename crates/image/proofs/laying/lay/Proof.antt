@@ -1,8 +1,8 @@
--- `lay` meets its contract: the record of the counter, then each table behind the one before.
+-- `lay` meets its contract: the records of the counter and the rule, then each table behind the one before.
 use borrow.Author.Needs.{needs}
 use native.Mathlib.Omega.{arith}
 use Rattle.image.specs.Image.{imageOf}
-use Rattle.image.proofs.Puts.{laid-text, laid-laid}
+use Rattle.image.proofs.Puts.{laid-laid}
 use Rattle.image.proofs.laying.lay.Statement.{statement}
 use Rattle.image.proofs.laying.lay.Tie as tie
 
@@ -15,10 +15,9 @@ returns c =
     let r = s .before .before .before .before in
     let u = r .before .before .before .before in
     let p = u .before .before .before .before in
-    let t = p .before .before .before in
-    let start = t .before .before in
+    let start = p .before .before .before in
     let h = start .pre in
-    let to-users = laid-laid (laid-text (t .counter-bytes .ensures) (p .put .ensures)) (u .lay-users .ensures) (omega arith) in
+    let to-users = laid-laid (p .lay-head .ensures) (u .lay-users .ensures) (omega arith) in
     let to-rooms = laid-laid to-users (r .lay-rooms .ensures) (omega arith) in
     let to-scripts = laid-laid to-rooms (s .lay-scripts .ensures) (omega arith) in
     let to-sessions = laid-laid to-scripts (e .lay-sessions .ensures) (omega arith) in
@@ -27,5 +26,5 @@ returns c =
 pub lay-spec : {M : Type 1} → statement M
 lay-spec =
     tie.close
-    (tie.spec (λ c κs. search needs) (λ c. search needs) (λ c κs. search needs) (λ c κs. search needs) (λ c κs. search needs) (λ c κs. search needs) (λ c κs. search needs)
-    (λ c κs. search needs) (λ c. search needs) returns)
+    (tie.spec (λ c κs. search needs) (λ c κs. search needs) (λ c κs. search needs) (λ c κs. search needs) (λ c κs. search needs) (λ c κs. search needs)
+    (λ c. search needs) returns)
