@@ -1,4 +1,4 @@
-// The counter, the rule and the tables laid one behind the other, each by a loop that writes the record of each element that is there.
+// The counter, the rule and the tables laid one behind the other: a table by a loop that writes the record of each element that is there.
 ghost use mathlib.Core.List.{_++_};
 ghost use lib.ListN.{length};
 ghost use Prim.Native.Nat.{_+_, _≤_};

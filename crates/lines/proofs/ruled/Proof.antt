@@ -9,4 +9,8 @@ slice-aggregate-read : tie.Need-slice-aggregate-read
 slice-aggregate-read c = simp length-take (omega arith)
 
 pub ruled-spec : {M : Type 1} → statement M
-ruled-spec = tie.close (tie.spec (λ c. search needs) slice-aggregate-read (λ c κs. search needs) (λ c κs. search needs) (λ c. search needs) (λ c κs. search needs) (λ c κs. search needs) (λ c. search needs) (λ c. search needs) (λ c. search needs) (λ c. search needs) (λ c. search needs))
+ruled-spec =
+    tie.close
+    (tie.spec
+    (λ c. search needs) slice-aggregate-read (λ c κs. search needs) (λ c κs. search needs) (λ c κs. search needs) (λ c κs. search needs) (λ c. search needs)
+    (λ c κs. search needs) (λ c κs. search needs) (λ c. search needs) (λ c. search needs) (λ c. search needs) (λ c. search needs) (λ c. search needs))
