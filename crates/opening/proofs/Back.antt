@@ -9,19 +9,20 @@ use lib.ListN.{length, take, getD, set, replicate, length-append}
 use borrow.Author.Tests.{le-ltb}
 use Rattle.request.specs.Bytes.{_#_}
 use Rattle.records.specs.Places.{has, with, roomNumbers}
-use Rattle.records.specs.House.{noUser, noScript, noSession, emptyHouse, isYes, asNumber}
+use Rattle.records.specs.House.{House, noUser, noScript, noSession, emptyHouse, isYes, asNumber}
 use Rattle.records.specs.declared.User.{User}
 use Rattle.records.specs.declared.Script.{Script}
 use Rattle.records.specs.declared.Session.{Session}
 use Rattle.records.specs.declared.Draft.{Draft}
+use Rattle.records.specs.declared.Rule.{Rule}
 use Rattle.rules.specs.Facts.{Among, Rules}
-use Rattle.rules.proofs.Bools.{equal, atMost}
+use Rattle.rules.proofs.Bools.{clash, equal, atMost}
 use Rattle.rules.proofs.Lists.{each-is}
 use Rattle.rules.proofs.Sets.{room-number, rooms-any}
 use Rattle.rules.proofs.Meaning.{rules-are}
 use Rattle.image.specs.Forms.{sizes, spelt, Form, written, writtenIf, listed}
-use Rattle.image.specs.Image.{counterForm, userForm, roomForm, scriptForm, sessionForm, draftForm, imageOf}
-use Rattle.reader.specs.Reading.{Saved, saved, blank, row, rows, at, find, takeCounter, takeUser, takeRoom, takeScript, takeSession, takeDraft, takenIn, stopped, frame, walked}
+use Rattle.image.specs.Image.{counterForm, ruleForm, isTwo, userForm, roomForm, scriptForm, sessionForm, draftForm, imageOf}
+use Rattle.reader.specs.Reading.{Saved, saved, blank, row, rows, at, find, takeCounter, takeRule, takeUser, takeRoom, takeScript, takeSession, takeDraft, takenIn, stopped, frame, walked}
 use Rattle.reader.specs.declared.Walk.{Walk}
 use Rattle.reader.proofs.Walking.{skipped}
 use Rattle.opening.specs.Opening.{image, keeps}
@@ -88,6 +89,13 @@ yes-again true = refl
 good-counter : Good counterForm takeCounter (λ _. true)
 good-counter = record { found = refl; full = λ n x. tt; same = λ n x s k. refl }
 
+two-again : (rule : Rule) → isTwo rule ≡ true → Rule.Two ≡ rule
+two-again Rule.One k = clash k refl
+two-again Rule.Two k = refl
+
+good-rule : Good ruleForm takeRule isTwo
+good-rule = record { found = refl; full = λ n x. tt; same = λ n x s k. ap (λ (rule : Rule). takeRule n rule s) (two-again x k) }
+
 good-user : Good userForm takeUser (λ u. u .here)
 good-user = record {
   found = refl;
@@ -130,9 +138,14 @@ good-session = record {
 good-draft : Good draftForm takeDraft (λ _. true)
 good-draft = record { found = refl; full = λ n x. tt; same = λ n x s k. refl }
 
+-- "an image without it is rule 1"
+rule-back : (h : House) (n : ℕ) (rule : Rule) → Takes (writtenIf ruleForm isTwo 0 rule) (saved h n Rule.One) (saved h n rule)
+rule-back h n Rule.One = nothing
+rule-back h n Rule.Two = record-back good-rule 0 Rule.Two refl (saved h n Rule.One)
+
 -- ---- the tables, one behind the other
-abbrev made : List User → ℕ → List Script → List Session → List Draft → ℕ → Saved
-made us rs ss xs ds n = saved (record { users = us; rooms = rs; scripts = ss; sessions = xs; drafts = ds }) n
+abbrev made : List User → ℕ → List Script → List Session → List Draft → ℕ → Rule → Saved
+made us rs ss xs ds n rule = saved (record { users = us; rooms = rs; scripts = ss; sessions = xs; drafts = ds }) n rule
 
 -- what is put into a part of the records where it is there
 part-if : {A S T : Type 0} (there : A → Bool) (put : ℕ → A → S → S) (into : ℕ → A → T → T) (whole : T → S)
@@ -184,13 +197,15 @@ back s k =
     let R = rules-are (s .house) (s .last) .says k in
     let h = s .house in
     let n = s .last in
+    let rule = s .rule in
     let scripts = replicate 64 noScript in
     let sessions = replicate 64 noSession in
     let all =
     record-back good-counter 0 n refl blank
-    then table-back good-user noUser (λ l. made l 0 scripts sessions [] n) (λ n x l. refl) (h .users) (R .people .size) (λ i. R .people .each i .absent)
-    then rooms-back (h .rooms) (R .people .numbers) (λ r. made (h .users) r scripts sessions [] n) (λ n x l. refl)
-    then table-back good-script noScript (λ l. made (h .users) (h .rooms) l sessions [] n) (λ n x l. refl) (h .scripts) (R .texts .size) (λ i. R .texts .each i .absent)
-    then table-back good-session noSession (λ l. made (h .users) (h .rooms) (h .scripts) l [] n) (λ n x l. refl) (h .sessions) (R .seats .size) (λ i. R .seats .each i .absent)
-    then drafts-back (h .drafts) (R .texts .at-most) (λ l. made (h .users) (h .rooms) (h .scripts) (h .sessions) l n) (λ n x l. refl) in
+    then rule-back emptyHouse n rule
+    then table-back good-user noUser (λ l. made l 0 scripts sessions [] n rule) (λ n x l. refl) (h .users) (R .people .size) (λ i. R .people .each i .absent)
+    then rooms-back (h .rooms) (R .people .numbers) (λ r. made (h .users) r scripts sessions [] n rule) (λ n x l. refl)
+    then table-back good-script noScript (λ l. made (h .users) (h .rooms) l sessions [] n rule) (λ n x l. refl) (h .scripts) (R .texts .size) (λ i. R .texts .each i .absent)
+    then table-back good-session noSession (λ l. made (h .users) (h .rooms) (h .scripts) l [] n rule) (λ n x l. refl) (h .sessions) (R .seats .size) (λ i. R .seats .each i .absent)
+    then drafts-back (h .drafts) (R .texts .at-most) (λ l. made (h .users) (h .rooms) (h .scripts) (h .sessions) l n rule) (λ n x l. refl) in
     ap (walked 0 blank) (sym (append-nil (image s))) ∙ all .on []

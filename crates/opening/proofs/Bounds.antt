@@ -16,6 +16,7 @@ use Rattle.records.specs.declared.User.{User}
 use Rattle.records.specs.declared.Script.{Script}
 use Rattle.records.specs.declared.Session.{Session}
 use Rattle.records.specs.declared.Draft.{Draft}
+use Rattle.records.specs.declared.Rule.{Rule}
 use Rattle.rules.specs.Lists.{Each}
 use Rattle.rules.specs.Facts.{Among, Place, Rules, UserFine, ScriptFine, Seated, Filed, Ascending}
 use Rattle.rules.proofs.Bools.{clash, atMost}
@@ -23,7 +24,7 @@ use Rattle.rules.proofs.Lists.{each-is, each-both, each-at}
 use Rattle.rules.proofs.Sets.{among, room-number, with-among, with-other}
 use Rattle.rules.proofs.Meaning.{rules-are}
 use Rattle.image.specs.Forms.{Width, one, two, four, spell, spelt, Form, written, writtenIf, listed}
-use Rattle.image.specs.Image.{counterForm, userForm, roomForm, scriptForm, sessionForm, draftForm, imageOf}
+use Rattle.image.specs.Image.{counterForm, ruleForm, isTwo, userForm, roomForm, scriptForm, sessionForm, draftForm, imageOf}
 use Rattle.reader.specs.Reading.{Saved}
 use Rattle.opening.specs.Opening.{image, keeps}
 use Rattle.opening.proofs.Fills.{each-place}
@@ -132,6 +133,9 @@ numbers-up n last (d ∷ ds) a = (a .0 .1, numbers-up (d .number) last ds (a .1)
 counter-fit : Fit counterForm (λ _. true) (λ last. last ≤ 4294967295) 1
 counter-fit = record { byte = omega arith; fits = λ n last l t p. (omega arith, tt) }
 
+rule-fit : Fit ruleForm isTwo (λ _. Unit {0}) 1
+rule-fit = record { byte = omega arith; fits = λ n rule l t p. tt }
+
 module _ (s : Saved) (R : Rules (s .house) (s .last)) where
   user-fit : Fit userForm (λ u. u .here) (UserFine (s .house .rooms)) 64
   user-fit = record {
@@ -179,6 +183,7 @@ module _ (s : Saved) (R : Rules (s .house) (s .last)) where
       let h = s .house in
       let T = R .texts in
       let c = record-bytes counter-fit 0 (s .last) (omega arith) refl (R .counter) in
+      let q = record-bytes-if rule-fit 0 (s .rule) (omega arith) tt in
       let us = listed-bytes (writtenIf userForm (λ u. u .here)) (UserFine (h .rooms)) 64 (record-bytes-if user-fit) 0 (h .users) (omega (arith, R .people .size))
       (each-place (UserFine (h .rooms)) noUser (h .users) (R .people .each)) in
       let rs = listed-bytes (writtenIf roomForm (has (h .rooms))) (λ r. r ≤ 16) 16 (record-bytes-if room-fit) 0 roomNumbers (omega arith)
@@ -190,7 +195,7 @@ module _ (s : Saved) (R : Rules (s .house) (s .last)) where
       let ds = listed-bytes (written draftForm) (λ d. Filed (h .rooms) (h .scripts) d × (d .number ≤ s .last)) 256 (λ n d l p. record-bytes draft-fit n d l refl p)
       0 (h .drafts) (omega (arith, T .at-most))
       (each-both (Filed (h .rooms) (h .scripts)) (λ d. d .number ≤ s .last) (h .drafts) (T .filed) (numbers-up 0 (s .last) (h .drafts) (T .ascending))) in
-      c then us then rs then ss then xs then ds
+      c then q then us then rs then ss then xs then ds
 
 -- each is a byte; past the end stands 0
 pub image-bytes : (s : Saved) → keeps s ≡ true → (i : ℕ) → image s # i < 256

@@ -1,4 +1,4 @@
--- What opening accepts, both round trips, that records and bytes determine each other, and each refusal. 02, L2.
+-- What opening accepts, both round trips, that bytes and records, last number and rule determine each other, and each refusal. 02, L2 and L3.
 use Prim.Native.Nat.{ℕ, _<_}
 use mathlib.Core.Path.{_≡_, refl, sym, ap, _∙_, subst}
 use mathlib.Core.Bool.{Bool, true, false, cond, _&&_}
@@ -11,7 +11,7 @@ use lib.ListN.{length}
 use borrow.Author.Tests.{eqb-true, eq-eqb, ne-eqb}
 use Rattle.request.specs.Bytes.{_#_, Bytes}
 use Rattle.rules.proofs.Bools.{left, right, clash}
-use Rattle.image.specs.Image.{imageOf}
+use Rattle.image.specs.Image.{isTwo, imageOf}
 use Rattle.reader.specs.Reading.{Saved, blank, Taken, walked, stopOf}
 use Rattle.reader.specs.declared.Walk.{Walk}
 use Rattle.reader.proofs.Walking.{walk-stops}
@@ -19,6 +19,7 @@ use Rattle.opening.specs.Opening.{keeps, image, IsImage, Opens, refused,
 use Rattle.opening.specs.declared.Opening.{Opening}
 use Rattle.opening.specs.declared.Opening.the-variants.{Opened, Refused}
 use Rattle.opening.proofs.Bounds.{image-bytes}
+use Rattle.opening.proofs.Marks.{rule-byte}
 use Rattle.opening.proofs.Back as walking
 
 -- ---- for records that keep the rules, the walk over their image takes in exactly them
@@ -46,7 +47,7 @@ never-empty s = ne-eqb (length (image s)) 0 (λ e. omega arith)
 differ : {A : Type 0} → _≡_ {A = ℕ} 0 1 → A
 differ e = absurd (omega arith)
 
--- ---- what is written is accepted, and gives the same records and number
+-- ---- what is written is accepted, and gives the same records, number and rule
 pub saved-opens : (s : Saved) → keeps s ≡ true → openedBy (image s) ≡ accepted s
 unfolding openedBy
 saved-opens s k =
@@ -56,7 +57,7 @@ saved-opens s k =
     ∙ ap (λ (e : Bool). cond (e && sameBytes (image s) (image s)) (accepted s) (refused 15)) k
     ∙ ap (λ (e : Bool). cond e (accepted s) (refused 15)) (same-shown (image s))
 
--- ---- what is accepted keeps the rules and is written as the same bytes; what is refused gives the empty desk with last number 0
+-- ---- what is accepted keeps the rules and is written as the same bytes; what is refused gives the empty desk with last number 0 and rule 1
 abbrev pub Fine : List ℕ → Opens → Type 0
 Fine b o =
     (o .answer ≡ Opened → (keeps (o .now) ≡ true) × (image (o .now) ≡ b))
@@ -97,7 +98,7 @@ opens-saved b s e =
     let now = ap (λ (o : Opens). o .now) e in
     (sym (ap keeps now) ∙ f .0, sym (ap image now) ∙ f .1)
 
--- "A refused image gives the empty desk with last number 0."
+-- "like a refused image, gives the empty desk with last number 0 and rule 1"
 pub refused-blank : (b : List ℕ) (n : ℕ) → openedBy b .answer ≡ Refused n → openedBy b ≡ refused n
 refused-blank b n e = λ i. record { answer = e i; now = fine b .1 n e i }
 
@@ -112,7 +113,13 @@ accepts-only-images b e = let f = fine b .0 e in record { of = openedBy b .now; 
 pub images-are-bytes : (b : List ℕ) → IsImage b → Bytes b
 images-are-bytes b i n = subst (λ (c : List ℕ). c # n < 256) (i .written) (image-bytes (i .of) (i .kept) n)
 
--- ---- "Equal records and counter exactly when equal bytes"
+-- "a kind 46 record, directly after the counter, stands exactly when the rule is 2"
+pub marks-rule-2 : (b : List ℕ) → openedBy b .answer ≡ Opened → eqb (b # 5) 0x46 ≡ isTwo (openedBy b .now .rule)
+marks-rule-2 b e =
+    let s = openedBy b .now in
+    subst (λ (c : List ℕ). eqb (c # 5) 0x46 ≡ isTwo (s .rule)) (fine b .0 e .1) (rule-byte (s .house) (s .last) (s .rule))
+
+-- ---- "Equal records and counter exactly when equal bytes"; "L2's equality then speaks of records, counter and rule"
 pub bytes-determine : (s t : Saved) → keeps s ≡ true → keeps t ≡ true → image s ≡ image t → s ≡ t
 bytes-determine s t k l e = ap (λ (o : Opens). o .now) (sym (saved-opens s k) ∙ ap openedBy e ∙ saved-opens t l)
 

@@ -16,9 +16,9 @@ abbrev pub keeps : Saved → Bool
 keeps s = rules (s .house) (s .last)
 
 abbrev pub image : Saved → List ℕ
-image s = imageOf (s .house) (s .last)
+image s = imageOf (s .house) (s .last) (s .rule)
 
--- there are records and a last number that keep the rules, and these bytes are their image
+-- there are records and a last number that keep the rules, and a rule, and these bytes are their image
 pub record IsImage (b : List ℕ) : Type 0 where
   pub of : Saved
   pub kept : keeps of ≡ true
@@ -32,7 +32,7 @@ pub record Opens : Type 0 where
 abbrev pub opens : Opening → Saved → Opens
 opens answer s = record { answer = answer; now = s }
 
--- "A refused image gives the empty desk with last number 0."
+-- 02, L3: "like a refused image, gives the empty desk with last number 0 and rule 1"
 abbrev pub refused : ℕ → Opens
 refused n = opens (Refused n) blank
 

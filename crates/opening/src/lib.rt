@@ -10,11 +10,18 @@ use image::Written;
 use log::Log;
 use reader::Walk;
 use records::Cells;
+use records::Rule;
 
 // Refused: 14, no bytes or an end inside a body; 15, not an image.
 pub enum Opening {
     Opened,
     Refused(u8),
+}
+
+// The rule is the image's; of a refused one it is rule 1.
+pub struct Opened {
+    pub answer: Opening,
+    pub rule: Rule,
 }
 
 fn same(a: &[u8], b: &[u8]) -> bool
@@ -32,61 +39,70 @@ fn same(a: &[u8], b: &[u8]) -> bool
     true
 }
 
-// Whether these bytes are the image of the records: it is written again and compared. Any image fits.
-fn is_image(records: &Cells, last: u32, bytes: &[u8]) -> bool
-    ensures { λ r. ⌜ r ≡ sameBytes (imageOf (view (now (records .entry))) last) (now (bytes .entry)) ⌝ }
+// Whether these bytes are the image of the records, the last number and the rule: it is written again and compared. Any image fits.
+fn is_image(records: &Cells, last: u32, rule: Rule, bytes: &[u8]) -> bool
+    ensures { λ r. ⌜ r ≡ sameBytes (imageOf (view (now (records .entry))) last rule) (now (bytes .entry)) ⌝ }
 {
-    let mut again = [0u8; 4453];
-    let Written::Bytes(n) = image::save(records, last, &mut again) else {
+    let mut again = [0u8; 4454];
+    let Written::Bytes(n) = image::save(records, last, rule, &mut again) else {
         return false;
     };
     same(&again[..n], bytes)
 }
 
-// No records, and the last number 0.
-fn refuse(records: &mut Cells, last: &mut u32, why: u8) -> Opening
-    ensures { λ r. ⌜ opens r (saved (view (now (records .exit))) (now (last .exit))) ≡ refused why ⌝ }
+// No records, the last number 0 and rule 1.
+fn refuse(records: &mut Cells, last: &mut u32, why: u8) -> Opened
+    ensures { λ r. ⌜ opens (r .answer) (saved (view (now (records .exit))) (now (last .exit)) (r .rule)) ≡ refused why ⌝ }
 {
     records::clear(records);
     *last = 0;
-    Opening::Refused(why)
+    Opened {
+        answer: Opening::Refused(why),
+        rule: Rule::One,
+    }
 }
 
-// The records and the last number that the image holds; or none, and 0.
-pub fn open(image: &[u8], records: &mut Cells, last: &mut u32) -> Opening
-    ensures { λ r. ⌜ opens r (saved (view (now (records .exit))) (now (last .exit))) ≡ openedBy (now (image .entry)) ⌝ }
+// The records, the last number and the rule that the image holds; or none, 0 and rule 1.
+pub fn open(image: &[u8], records: &mut Cells, last: &mut u32) -> Opened
+    ensures { λ r. ⌜ opens (r .answer) (saved (view (now (records .exit))) (now (last .exit)) (r .rule)) ≡ openedBy (now (image .entry)) ⌝ }
 {
     if image.len() == 0 {
         return refuse(records, last, 14);
     }
-    match reader::take_all(image, records, last) {
+    let walked = reader::take_all(image, records, last);
+    let walk = walked.walk;
+    let rule = walked.rule;
+    match walk {
         Walk::Unknown => refuse(records, last, 15),
         Walk::Cut => refuse(records, last, 14),
         Walk::Whole => {
             if !rules::keeps(records, *last) {
                 return refuse(records, last, 15);
             }
-            if !is_image(records, *last, image) {
+            if !is_image(records, *last, rule, image) {
                 return refuse(records, last, 15);
             }
-            Opening::Opened
+            Opened {
+                answer: Opening::Opened,
+                rule,
+            }
         }
     }
 }
 
-// A desk with the records and the last number that the image holds. No change is kept: what was done before can't be taken back.
+// A desk with the records, the last number and the rule that the image holds. No change is kept: what was done before can't be taken back.
 pub fn open_desk(
     image: &[u8],
     base: &mut Cells,
     log: &mut Log,
     current: &mut Cells,
     last: &mut u32,
-) -> Opening
-    ensures { λ r. ⌜ opensDesk r (shown (now (base .exit)) (now (log .exit)) (now (current .exit)) (now (last .exit))) ≡ deskBy (now (image .entry)) ⌝ }
+) -> Opened
+    ensures { λ r. ⌜ opensDesk (r .answer) (shown (now (base .exit)) (now (log .exit)) (now (current .exit)) (now (last .exit))) (r .rule) ≡ deskBy (now (image .entry)) ⌝ }
 {
-    let opening = open(image, current, last);
+    let opened = open(image, current, last);
     let records = *current;
     *base = records;
     log::clear(log);
-    opening
+    opened
 }

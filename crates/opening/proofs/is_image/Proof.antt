@@ -15,28 +15,28 @@ use Rattle.opening.proofs.is_image.Tie as tie
 returns : tie.Need-returns
 returns c =
     let a = c .before .before .before .before .before .before .args in
-    absurd (never-refused (a .records .now) (a .last) (replicate 4453 0) _ (omega (arith, length-replicate {A = ℕ} 4453 0)) (sym (c .enum-told .given .1) ∙ c .before .before .before .save .ensures .0))
+    absurd (never-refused (a .records .now) (a .last) (a .rule) (replicate 4454 0) _ (omega (arith, length-replicate {A = ℕ} 4454 0)) (sym (c .enum-told .given .1) ∙ c .before .before .before .save .ensures .0))
 
 array-share-prefix-again : tie.Need-array-share-prefix-again
 array-share-prefix-again c =
     let w = c .before .before .before .before .save .ensures in
     let n = c .before .n .given in
     let a = c .before .before .before .before .before .before .before .args in
-    fronted (imageOf (view (a .records .now)) (a .last)) (replicate 4453 0) (n .0 .0) _ (sym (n .1) ∙ w .0) (w .1) .within
+    fronted (imageOf (view (a .records .now)) (a .last) (a .rule)) (replicate 4454 0) (n .0 .0) _ (sym (n .1) ∙ w .0) (w .1) .within
 
 slice-aggregate-same : tie.Need-slice-aggregate-same
 slice-aggregate-same c =
     let w = c .before .before .before .before .before .save .ensures in
     let n = c .before .before .n .given in
     let a = c .before .before .before .before .before .before .before .before .args in
-    fronted (imageOf (view (a .records .now)) (a .last)) (replicate 4453 0) (n .0 .0) _ (sym (n .1) ∙ w .0) (w .1) .long
+    fronted (imageOf (view (a .records .now)) (a .last) (a .rule)) (replicate 4454 0) (n .0 .0) _ (sym (n .1) ∙ w .0) (w .1) .long
 
 returns-2 : tie.Need-returns-2
 returns-2 c =
     let w = c .before .before .before .before .before .before .save .ensures in
     let n = c .before .before .before .n .given in
     let a = c .before .before .before .before .before .before .before .before .before .args in
-    c .same .ensures ∙ ap (λ (l : List ℕ). sameBytes l (a .bytes .now)) (fronted (imageOf (view (a .records .now)) (a .last)) (replicate 4453 0) (n .0 .0) _ (sym (n .1) ∙ w .0) (w .1) .is)
+    c .same .ensures ∙ ap (λ (l : List ℕ). sameBytes l (a .bytes .now)) (fronted (imageOf (view (a .records .now)) (a .last) (a .rule)) (replicate 4454 0) (n .0 .0) _ (sym (n .1) ∙ w .0) (w .1) .is)
 
 pub is-image-spec : {M : Type 1} → statement M
 is-image-spec =

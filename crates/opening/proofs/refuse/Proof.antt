@@ -1,4 +1,4 @@
--- `refuse` leaves no records and the number 0.
+-- `refuse` leaves no records, the number 0 and rule 1.
 use borrow.Author.Needs.{needs}
 use Rattle.opening.proofs.refuse.Statement.{statement}
 use Rattle.opening.proofs.refuse.Tie as tie
