@@ -22,7 +22,7 @@ use libc::STDERR_FILENO;
 use libc::STDIN_FILENO;
 use libc::STDOUT_FILENO;
 use log::Log;
-use opening::OpenedImage;
+use opening::Opened;
 use opening::Opening;
 use records::Cells;
 use records::Rule;
@@ -195,11 +195,11 @@ fn open_file(
     log: &mut Log,
     current: &mut Cells,
     last: &mut u32,
-) -> OpenedImage
+) -> Opened
     ensures { λ r. ⌜ opensDesk (r .answer) (shown (now (base .exit)) (now (log .exit)) (now (current .exit)) (now (last .exit))) (r .rule) ≡ fileBy (shown (now (base .entry)) (now (log .entry)) (now (current .entry)) (now (last .entry))) (now (bytes .entry)) ⌝ }
 {
     if 65536 < bytes.len() {
-        return OpenedImage {
+        return Opened {
             answer: Opening::Refused(15),
             rule: Rule::One,
         };

@@ -92,15 +92,16 @@ pub input-from-empty : (rule : Rule) (last : ℕ) → last ≤ top → (input : 
     → Promised rule emptyHouse last (seriesOf input .requests) (run (deskRules rule) (opened emptyHouse last) (seriesOf input .requests))
 input-from-empty rule last l = of-input rule emptyHouse last (empty-meets last l)
 
--- ---- from any image: what opens meets the rules, and a refused image opens the empty desk with last number 0
+-- ---- from any image, under its rule: what opens meets the rules, and a refused image opens the empty desk with last number 0
 opened-meets : (b : List ℕ) (a : Opening) → openedBy b .answer ≡ a → keeps (openedBy b .now) ≡ true
 opened-meets b Opening.Opened e = fine b .0 e .0
 opened-meets b (Opening.Refused n) e = subst (λ (s : Saved). keeps s ≡ true) (sym (fine b .1 n e)) (empty-meets 0 (omega arith))
 
-pub from-image : (rule : Rule) (b : List ℕ) {cs : List Call} {d : State} → Calls rule (deskBy b .desk) cs d
-    → Promised rule (openedBy b .now .house) (openedBy b .now .last) (takenIn rule (deskBy b .desk) cs) d
-from-image rule b = of-calls rule (openedBy b .now .house) (openedBy b .now .last) (opened-meets b (openedBy b .answer) refl)
+pub from-image : (b : List ℕ) {cs : List Call} {d : State} → Calls (deskBy b .rule) (deskBy b .desk) cs d
+    → Promised (deskBy b .rule) (openedBy b .now .house) (openedBy b .now .last) (takenIn (deskBy b .rule) (deskBy b .desk) cs) d
+from-image b = of-calls (deskBy b .rule) (openedBy b .now .house) (openedBy b .now .last) (opened-meets b (openedBy b .answer) refl)
 
-pub input-from-image : (rule : Rule) (b input : List ℕ) → Bytes input
-    → Promised rule (openedBy b .now .house) (openedBy b .now .last) (seriesOf input .requests) (run (deskRules rule) (deskBy b .desk) (seriesOf input .requests))
-input-from-image rule b = of-input rule (openedBy b .now .house) (openedBy b .now .last) (opened-meets b (openedBy b .answer) refl)
+pub input-from-image : (b input : List ℕ) → Bytes input
+    → Promised (deskBy b .rule) (openedBy b .now .house) (openedBy b .now .last) (seriesOf input .requests)
+    (run (deskRules (deskBy b .rule)) (deskBy b .desk) (seriesOf input .requests))
+input-from-image b = of-input (deskBy b .rule) (openedBy b .now .house) (openedBy b .now .last) (opened-meets b (openedBy b .answer) refl)

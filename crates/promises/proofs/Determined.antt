@@ -5,7 +5,7 @@ use mathlib.Core.Path.{_≡_, sym, ap, _∙_}
 use mathlib.Core.List.{List}
 use lib.ListN.{length}
 use Rattle.request.specs.declared.Request.{Request}
-use Rattle.records.specs.House.{House, view, emptyHouse}
+use Rattle.records.specs.House.{House, view}
 use Rattle.records.specs.declared.Rule.{Rule}
 use Rattle.effects.specs.declared.Change.{Change}
 use Rattle.reader.specs.Reading.{Saved, blank, Taken, stopped, walked}
@@ -19,10 +19,12 @@ use Rattle.counter.specs.declared.Issued.{Issued}
 use Rattle.counter.specs.declared.Next.{Next}
 use Rattle.log.specs.Log.{past}
 use Rattle.judge.specs.declared.Ruling.{Ruling}
-use Rattle.history.specs.Machine.{Outcome, outcome, opened, ruled, step}
-use Rattle.history.specs.Desk.{verdictOf, deskRules, shown}
+use Rattle.history.specs.Machine.{Outcome, outcome, ruled, step}
+use Rattle.history.specs.Desk as history
+use Rattle.history.specs.Desk.{verdictOf, deskRules, shown, openedUnder}
 use Rattle.history.specs.declared.Answer.{Answer}
 use Rattle.history.specs.declared.Desk.{Desk}
+use Rattle.history.specs.declared.Opened.{Opened}
 use Rattle.batch.specs.Batch.{State, Batched}
 use Rattle.batch.specs.declared.Ran.{Ran}
 use Rattle.batch.specs.declared.RanDesk.{RanDesk}
@@ -55,7 +57,7 @@ pub one-issued : (last : ℕ) (r s : Issued)
     → (r .next ≡ nextAfter last) × (r .last ≡ lastAfter last) → (s .next ≡ nextAfter last) × (s .last ≡ lastAfter last) → r ≡ s
 one-issued last r s p q = λ i. record { next = determined (p .0) (q .0) i; last = determined (p .1) (q .1) i }
 
--- s₁ and s₂ are what the records show, with the last number
+-- s₁ and s₂ are what the records show, with the last number and the rule
 -- two results of reader::take_all: one-walk
 pub one-walk : (image : List ℕ) (s₁ s₂ : Saved) (r s : Walk) → stopped r s₁ ≡ walked 0 blank image → stopped s s₂ ≡ walked 0 blank image → (r ≡ s) × (s₁ ≡ s₂)
 one-walk image s₁ s₂ r s p q = (ap (λ (t : Taken). t .stop) (determined p q), ap (λ (t : Taken). t .got) (determined p q))
@@ -65,12 +67,17 @@ pub one-opening : (image : List ℕ) (s₁ s₂ : Saved) (r s : Opening) → ope
 one-opening image s₁ s₂ r s p q = (ap (λ (o : Opens). o .answer) (determined p q), ap (λ (o : Opens). o .now) (determined p q))
 
 -- two results of opening::open_desk: one-desk
-pub one-desk : (image : List ℕ) (d₁ d₂ : State) (r s : Opening) → opensDesk r d₁ ≡ deskBy image → opensDesk s d₂ ≡ deskBy image → (r ≡ s) × (d₁ ≡ d₂)
-one-desk image d₁ d₂ r s p q = (ap (λ (o : OpensDesk). o .answer) (determined p q), ap (λ (o : OpensDesk). o .desk) (determined p q))
+pub one-desk : (image : List ℕ) (d₁ d₂ : State) (r s : Opening) (rule₁ rule₂ : Rule) → opensDesk r d₁ rule₁ ≡ deskBy image → opensDesk s d₂ rule₂ ≡ deskBy image
+    → (r ≡ s) × (d₁ ≡ d₂) × (rule₁ ≡ rule₂)
+one-desk image d₁ d₂ r s rule₁ rule₂ p q =
+    (ap (λ (o : OpensDesk). o .answer) (determined p q), ap (λ (o : OpensDesk). o .desk) (determined p q), ap (λ (o : OpensDesk). o .rule) (determined p q))
 
 -- two results of history::open: one-opened
-pub one-opened : (last : ℕ) (r s : Desk) → shownOf r ≡ opened emptyHouse last → shownOf s ≡ opened emptyHouse last → shownOf r ≡ shownOf s
-one-opened last r s p q = determined p q
+pub one-opened : (last rule : ℕ) (r s : Opened) → history.opens (r .answer) (shownOf (r .desk)) (r .desk .rule) ≡ openedUnder last rule
+    → history.opens (s .answer) (shownOf (s .desk)) (s .desk .rule) ≡ openedUnder last rule
+    → (r .answer ≡ s .answer) × (shownOf (r .desk) ≡ shownOf (s .desk)) × (r .desk .rule ≡ s .desk .rule)
+one-opened last rule r s p q =
+    (ap (λ (o : history.Opens). o .answer) (determined p q), ap (λ (o : history.Opens). o .desk) (determined p q), ap (λ (o : history.Opens). o .rule) (determined p q))
 
 -- d₁ and d₂ are what `shown` shows of the parts at exit
 one-outcome : {o : Outcome House Change} (d₁ d₂ : State) (r s : Answer) → outcome d₁ r ≡ o → outcome d₂ s ≡ o → (d₁ ≡ d₂) × (r ≡ s)
@@ -78,9 +85,10 @@ one-outcome d₁ d₂ r s p q =
     (ap (λ (o : Outcome House Change). o .desk) (determined p q), ap (λ (o : Outcome House Change). o .answer) (determined p q))
 
 -- two results of history::act: one-acted
-pub one-acted : (rule : Rule) (d : State) (request : Request) (ruling : Ruling) (d₁ d₂ : State) (r s : Answer)
-    → outcome d₁ r ≡ ruled (deskRules rule) d (verdictOf request ruling) → outcome d₂ s ≡ ruled (deskRules rule) d (verdictOf request ruling) → (d₁ ≡ d₂) × (r ≡ s)
-one-acted rule d request ruling d₁ d₂ r s p q = one-outcome d₁ d₂ r s p q
+pub one-acted : (d : State) (request : Request) (ruling : Ruling) (d₁ d₂ : State) (r s : Answer)
+    → ((rule : Rule) → outcome d₁ r ≡ ruled (deskRules rule) d (verdictOf request ruling))
+    → ((rule : Rule) → outcome d₂ s ≡ ruled (deskRules rule) d (verdictOf request ruling)) → (d₁ ≡ d₂) × (r ≡ s)
+one-acted d request ruling d₁ d₂ r s p q = one-outcome d₁ d₂ r s (p Rule.One) (q Rule.One)
 
 -- two results of history::take: one-taken
 pub one-taken : (rule : Rule) (d : State) (request : Request) (d₁ d₂ : State) (r s : Answer)
@@ -94,6 +102,7 @@ one-run rule d requests answers place d₁ d₂ r s answers₁ answers₂ p q = 
 
 -- two results of batch::run_desk: one-ran-desk
 pub one-ran-desk : (rule : Rule) (d : State) (requests answers : List ℕ) (place : ℕ) (r s : RanDesk) (answers₁ answers₂ : List ℕ)
-    → Batched rule d requests answers place (shownOf (r .desk)) (r .ran) answers₁ → Batched rule d requests answers place (shownOf (s .desk)) (s .ran) answers₂
-    → (shownOf (r .desk) ≡ shownOf (s .desk)) × ((r .ran ≡ s .ran) × (answers₁ ≡ answers₂))
-one-ran-desk rule d requests answers place r s answers₁ answers₂ p q = one-result p q
+    → Batched rule d requests answers place (shownOf (r .desk)) (r .ran) answers₁ × (r .desk .rule ≡ rule)
+    → Batched rule d requests answers place (shownOf (s .desk)) (s .ran) answers₂ × (s .desk .rule ≡ rule)
+    → ((shownOf (r .desk) ≡ shownOf (s .desk)) × ((r .ran ≡ s .ran) × (answers₁ ≡ answers₂))) × (r .desk .rule ≡ s .desk .rule)
+one-ran-desk rule d requests answers place r s answers₁ answers₂ p q = (one-result (p .0) (q .0), determined (p .1) (q .1))

@@ -20,7 +20,7 @@ use Rattle.judge.specs.declared.Ruling.the-variants.{Refused, Pass, Keep, KeepN
 use Rattle.fields.specs.Fields.{isId, toSixteen, fromOne, isSort, isPlain, isFirst}
 use Rattle.conditions.specs.Conditions.{noUsers, isUser, isStaff, opening}
 use Rattle.conditions.specs.Labels.{Covered}
-use Rattle.reasons.specs.Shared.{pairNumbers, pairLed, draftLed, opens, covers, asScript, alike, draftAsked}
+use Rattle.reasons.specs.Shared.{pairNumbers, pairLed, draftLed, opens, covers, asScript, imports, draftAsked}
 use Rattle.judge.specs.Kinds.{enrolWhere, establishLines, importLines, disbandLines, createLines, killLines, linesOf, grantOf, rulingOf}
 use Rattle.rules.specs.Rules.{rules}
 use Rattle.rules.specs.Facts.{RoomNumber, LabelFits, Administered, Rules}
@@ -32,7 +32,8 @@ use Rattle.promises.proofs.Drafts.{ascending-later}
 use Rattle.promises.proofs.Users.{enrol, establish, join-staff, join-outsider, leave}
 use Rattle.conditions.proofs.Labels.{covered}
 use Rattle.promises.proofs.Sessions.{open-in-room, open-in-house, open-read-only, kill}
-use Rattle.promises.proofs.Texts.{add, merge, imports, update, create}
+use Rattle.promises.proofs.Texts as texts
+use Rattle.promises.proofs.Texts.{add, merge, update, create}
 use Rattle.promises.proofs.Sweep.{remove, disband}
 
 -- ---- what the conditions of a kind say
@@ -93,7 +94,7 @@ Next h last n q Ruling.TakeBack = Unit {0}
 module _ (rule : Rule) (h : House) (last : ℕ) (R : Rules h last) where
   -- where f k says that condition k of the kind holds
   next : (n : ℕ) (q : Request) → fits q ≡ true → Hold (linesOf rule h q) → Next h last n q (grantOf q)
-  unfolding enrolWhere establishLines pairNumbers pairLed draftLed importLines disbandLines opens covers asScript alike draftAsked createLines killLines
+  unfolding enrolWhere establishLines pairNumbers pairLed draftLed importLines disbandLines opens covers asScript imports draftAsked createLines killLines
   next n (Enrol u new sort level c admin) w f =
       let s = sort-of sort (f 3) in
       let l = label-of level c (bytes (u ∷ new ∷ sort ∷ level ∷ admin ∷ [])) (f 2) w in
@@ -108,7 +109,7 @@ module _ (rule : Rule) (h : House) (last : ℕ) (R : Rules h last) where
   next n (LeaveOutsider u m room) w f = leave h last R m room (room-of room (f 2) (f 3)) (f 5)
   next n (Add u s v room) w f = add h last R s v room (f 5) (f 9)
   next n (Remove u s v room) w f = remove h last R s v room (room-of room (f 2) (f 3))
-  next n (Import u s₁ v s₂ room) w f = λ l. imports h last R (ltb-true (length (h .drafts)) 256 (f 15)) l s₂ (f 8) (eqb-true (script h s₂ .origin) house (f 12))
+  next n (Import u s₁ v s₂ room) w f = λ l. texts.imports h last R (ltb-true (length (h .drafts)) 256 (f 15)) l s₂ (f 8) (eqb-true (script h s₂ .origin) house (f 12))
   next n (Merge u s v room) w f = merge h last R s v (eqb-true (script h s .origin) house (f 10))
   next n (Disband u room) w f = disband room (room-of room (f 1) (f 2)) h last R
   next n (OpenInRoom u x room level c) w f =

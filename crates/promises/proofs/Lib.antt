@@ -25,4 +25,5 @@ pub mod Back
 pub mod Seen
 pub mod Calls
 pub mod Restart
+pub mod Amended
 pub mod Determined

@@ -32,7 +32,7 @@ use Rattle.promises.specs.Book.{numbers, Rising}
 use Rattle.promises.specs.Fits.{fits}
 use Rattle.promises.specs.Back.{IsTakeBack}
 use Rattle.promises.specs.Events.{reachedDesk, answersFrom}
-use Rattle.promises.specs.Restart.{savedAs, again, Restarted}
+use Rattle.promises.specs.Restart.{savedAs, again, ruleAgain, Restarted}
 use Rattle.promises.proofs.Granted.{conditions}
 use Rattle.promises.proofs.Past.{records-after, last-after}
 use Rattle.promises.proofs.Runs.{next-larger, numbers-rise}
@@ -134,17 +134,19 @@ module _ (rule : Rule) (h : House) (last : ℕ) (m : rules h last ≡ true) (qs 
   abbrev now : State
   now = reachedDesk rule h last qs
 
-  opens : openedBy (savedAs rule now) ≡ accepted (saved (now .current) (now .last))
-  opens = saved-opens (saved (now .current) (now .last)) (reached rule h last m qs fit)
+  opens : openedBy (savedAs rule now) ≡ accepted (saved (now .current) (now .last) rule)
+  opens = saved-opens (saved (now .current) (now .last) rule) (reached rule h last m qs fit)
 
   pub restarts : Restarted rule last (answersFrom rule h last qs) now
   restarts =
       let same : again rule now ≡ opened (now .current) (now .last) = ap (λ (o : Opens). opened (o .now .house) (o .now .last)) opens in
+      let ruled : ruleAgain rule now ≡ rule = ap (λ (o : Opens). o .now .rule) opens in
       record {
         accepted = ap (λ (o : Opens). o .answer) opens;
         as-saved = same;
-        rising = λ rs. subst (λ (d : State). Rising last (numbers (answersFrom rule h last qs ++ answers (deskRules rule) d rs))) (sym same)
+        same-rule = ruled;
+        rising = λ rs. subst (λ (t : Rule × State). Rising last (numbers (answersFrom rule h last qs ++ answers (deskRules (t .0)) (t .1) rs))) (λ i. (sym ruled i, sym same i))
             (rising-on (deskRules rule) (opened h last) qs (answers (deskRules rule) (opened (now .current) (now .last)) rs) (numbers-rise (deskRules rule) (now .current) (now .last) rs));
-        as-in-one-piece = λ rs none. ap (λ (d : State). answers (deskRules rule) d rs) same
+        as-in-one-piece = λ rs none. (λ i. answers (deskRules (ruled i)) (same i) rs)
             ∙ run-alike (deskRules rule) (opened (now .current) (now .last)) now (record { records = refl; last-number = refl }) rs (each-never rule rs none);
       }

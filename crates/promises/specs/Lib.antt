@@ -7,3 +7,4 @@ pub mod Back
 pub mod Seen
 pub mod Calls
 pub mod Restart
+pub mod Amended
