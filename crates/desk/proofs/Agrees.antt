@@ -29,17 +29,17 @@ pub prints-these : (rule : Rule) (d : Desk House Change) (input : List ℕ)
 prints-these rule d input = of-the-run rule d (seriesOf input .requests) (atEnd true (seriesOf input .end))
 
 -- ---- the batch, where its buffer has five bytes of room for each answer
-over-these : {rule : Rule} {b : List ℕ} {s : Series} → Cuts b s → (d : Desk House Change) (room : ℕ) → 5 * length (givenTo rule true d s) ≤ room
+over-these : (rule : Rule) {b : List ℕ} {s : Series} → Cuts b s → (d : Desk House Change) (room : ℕ) → 5 * length (givenTo rule true d s) ≤ room
     → runOver rule d s room .bytes ≡ bytesOf (answersIn (givenTo rule true d s))
-over-these {rule} (nothing e) d room h = refl
-over-these {rule} {b} (unknown l f) d room h = ap (λ (r : Result). r .bytes) (over-unknown rule d room (b # 0) (omega (arith, h)))
-over-these {rule} {b} (cut l f) d room h = ap (λ (r : Result). r .bytes) (over-cut rule d room (b # 0) (omega (arith, h)))
-over-these {rule} {b} (whole l q f s later) d room h =
+over-these rule (nothing e) d room h = refl
+over-these rule {b} (unknown l f) d room h = ap (λ (r : Result). r .bytes) (over-unknown rule d room (b # 0) (omega (arith, h)))
+over-these rule {b} (cut l f) d room h = ap (λ (r : Result). r .bytes) (over-cut rule d room (b # 0) (omega (arith, h)))
+over-these rule {b} (whole l q f s later) d room h =
     let e : Desk House Change = step (deskRules rule) d q .desk in
     let few = at-most-five (step (deskRules rule) d q .answer) in
     ap (λ (r : Result). r .bytes) (over-request rule d room q s (omega (arith, h)))
-    ∙ ap (λ (bytes : List ℕ). answered rule d q ++ bytes) (over-these later e (room - length (answered rule d q)) (omega (arith, h, few)))
+    ∙ ap (λ (bytes : List ℕ). answered rule d q ++ bytes) (over-these rule later e (room - length (answered rule d q)) (omega (arith, h, few)))
 
 pub writes-these : (rule : Rule) (d : Desk House Change) (b : List ℕ) (room : ℕ) → 5 * length (given rule d b) ≤ room → runBatch rule d b room .bytes ≡ bytesOf (answersIn (given rule d b))
 unfolding runBatch
-writes-these rule d b room h = over-these (cuts b) d room h
+writes-these rule d b room h = over-these rule (cuts b) d room h

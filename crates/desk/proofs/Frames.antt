@@ -188,11 +188,11 @@ few-wait {b} (cut l f) goes = cut-few b f
 few-wait {b} (whole l q f s rest) goes = subst (λ (x : List ℕ). length x ≤ 8) (past-both b q f (writtenOut (s .requests))) (few-wait rest goes)
 
 -- an answer takes a byte at least
-pub few-answers : {rule : Rule} {b : List ℕ} {s : Series} → Cuts b s → (ended : Bool) (d : Desk House Change) → length (givenTo rule ended d s) ≤ length b
-few-answers {rule} (nothing e) ended d = omega arith
-few-answers {rule} (unknown l f) ended d = omega (arith, l)
-few-answers {rule} (cut l f) true d = omega (arith, l)
-few-answers {rule} (cut l f) false d = omega arith
-few-answers {rule} {b} (whole l q f s rest) ended d =
+pub few-answers : (rule : Rule) {b : List ℕ} {s : Series} → Cuts b s → (ended : Bool) (d : Desk House Change) → length (givenTo rule ended d s) ≤ length b
+few-answers rule (nothing e) ended d = omega arith
+few-answers rule (unknown l f) ended d = omega (arith, l)
+few-answers rule (cut l f) true d = omega (arith, l)
+few-answers rule (cut l f) false d = omega arith
+few-answers rule {b} (whole l q f s rest) ended d =
     let n : ℕ = suc (bodyLength (b # 0)) in
-    omega (arith, few-answers rest ended (step (deskRules rule) d q .desk), length-drop n b, whole-is b q f .inside)
+    omega (arith, few-answers rule rest ended (step (deskRules rule) d q .desk), length-drop n b, whole-is b q f .inside)

@@ -57,7 +57,7 @@ module _ (rule : Rule) (why ended : Bool) (d : Desk House Change) (k : ℕ) (R O
   unfolding step
   made-whole q x a w d′ n f j acted after is-n put =
       let o : outcome d′ a ≡ step (deskRules rule) d q = acted ∙ ap (λ (z : Ruling). ruled (deskRules rule) d (verdictOf q z)) j in
-      let is-w : w ≡ cond why (reasonFor rule d q) zeros = after ∙ ap (λ (z : Reason). cond why z zeros) (from-ruling rule (d .last) (length (d .log)) (d .current) q j) in
+      let is-w : w ≡ cond why (reasonFor rule d q) zeros = after ∙ ap (λ (z : Reason). cond why z zeros) (from-ruling (d .last) (length (d .log)) rule (d .current) q j) in
       rw (sym f)
       (record {
         desk = ap (λ (x : Outcome House Change). x .desk) o;
@@ -287,7 +287,7 @@ module _ (rule : Rule) (why : Bool) (d : Desk House Change) (k : ℕ) (buf : Lis
   pub ordinal-near : turn rule why stands piece .next .ordinal ≤ k + (have + got)
   ordinal-near =
       let b : List ℕ = take have buf ++ piece in
-      let l = few-answers (cuts b) (eqb (length piece) 0) d in
+      let l = few-answers rule (cuts b) (eqb (length piece) 0) d in
       omega (arith, l, ap length whole-piece, length-take-le (have + got) buf room)
 
   pub few-waiting : turn rule why stands piece .onward ≡ true → length (turn rule why stands piece .next .waiting) ≤ 8

@@ -159,14 +159,15 @@ fn tell_rule(rule: u32, number: u8) {
 }
 
 // A desk without records, with the last number already used, under the rule of that number. Where that is refused it is told, and nothing is answered.
-fn serve_new(why: bool, save: usize, number: u32, rule: u32) {
-    let opened = history::open(number, rule);
+fn serve_new(why: bool, save: usize, number: u32, rule_number: u32) {
+    let opened = history::open(number, rule_number);
     let answered = opened.answer;
     let desk = opened.desk;
     let mut base = desk.base;
     let mut log = desk.log;
     let mut current = desk.current;
     let mut last = desk.last;
+    let rule = desk.rule;
     match answered {
         Answer::Granted => answer(
             why,
@@ -175,10 +176,10 @@ fn serve_new(why: bool, save: usize, number: u32, rule: u32) {
             &mut log,
             &mut current,
             &mut last,
-            desk.rule,
+            rule,
         ),
         Answer::Numbered(_) => {}
-        Answer::Refused(n) => tell_rule(rule, n),
+        Answer::Refused(n) => tell_rule(rule_number, n),
     }
 }
 
@@ -221,6 +222,7 @@ fn serve_image(why: bool, save: usize, from: usize) {
     let mut last = desk.last;
     let opened = open_file(&image[..n], &mut base, &mut log, &mut current, &mut last);
     let answered = opened.answer;
+    let rule = opened.rule;
     match answered {
         Opening::Opened => answer(
             why,
@@ -229,7 +231,7 @@ fn serve_image(why: bool, save: usize, from: usize) {
             &mut log,
             &mut current,
             &mut last,
-            opened.rule,
+            rule,
         ),
         Opening::Refused(number) => files::tell_refused(from, number),
     }

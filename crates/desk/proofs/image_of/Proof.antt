@@ -12,7 +12,7 @@ returns : tie.Need-returns
 returns c =
     let s = c .before .before .before .before in
     let a = s .before .before .before in
-    absurd (never-refused (a .args .current .now) (a .args .last) (a .args .out .now) _ (omega (arith, a .pre)) (sym (c .enum-told .given .1) ∙ s .save .ensures .0))
+    absurd (never-refused (a .args .current .now) (a .args .last) (a .args .rule) (a .args .out .now) _ (omega (arith, a .pre)) (sym (c .enum-told .given .1) ∙ s .save .ensures .0))
 
 returns-2 : tie.Need-returns-2
 returns-2 c =
@@ -20,7 +20,7 @@ returns-2 c =
     let a = s .before .before .before in
     let n = c .before .n .given in
     let w = s .save .ensures in
-    let f = fronted (imageOf (view (a .args .current .now)) (a .args .last)) (a .args .out .now) (n .0 .0) _ (sym (n .1) ∙ w .0) (w .1) in
+    let f = fronted (imageOf (view (a .args .current .now)) (a .args .last) (a .args .rule)) (a .args .out .now) (n .0 .0) _ (sym (n .1) ∙ w .0) (w .1) in
     (f .is, (f .within, f .long))
 
 pub image-of-spec : {M : Type 1} → statement M

@@ -14,18 +14,18 @@ use Rattle.desk.proofs.run.Statement.{statement}
 use Rattle.desk.proofs.run.Tie as tie
 
 abbrev Inv-loop : tie.InvT-loop
-Inv-loop why base₀ log₀ current₀ last₀ buf₀ out₀ ordinal₀ have₀ turns₀ t14 t15 base log current last buf out ordinal have turns =
-    Between why (shown base₀ log₀ current₀ last₀) (shown base log current last) ordinal have turns buf out
+Inv-loop why base₀ log₀ current₀ last₀ rule buf₀ out₀ ordinal₀ have₀ turns₀ t14 t15 base log current last buf out ordinal have turns =
+    Between rule why (shown base₀ log₀ current₀ last₀) (shown base log current last) ordinal have turns buf out
 
 abbrev μ-loop : tie.MeasureT-loop
-μ-loop why base₀ log₀ current₀ last₀ buf₀ out₀ ordinal₀ have₀ turns₀ t14 t15 base log current last buf out ordinal have turns =
+μ-loop why base₀ log₀ current₀ last₀ rule buf₀ out₀ ordinal₀ have₀ turns₀ t14 t15 base log current last buf out ordinal have turns =
     turns
 
 loop-holds : tie.Need-loop-holds Inv-loop μ-loop
 loop-holds c =
     let s = c .before .before in
     let a = s .args in
-    at-start (a .why) (shown (now (a .base)) (now (a .log)) (now (a .current)) (now (a .last))) (now (s .args .buf)) (now (s .args .out)) (s .pre .1 .0) (s .pre .1 .1)
+    at-start (a .rule) (a .why) (shown (now (a .base)) (now (a .log)) (now (a .current)) (now (a .last))) (now (s .args .buf)) (now (s .args .out)) (s .pre .1 .0) (s .pre .1 .1)
 
 answer-piece-requires : tie.Need-answer-piece-requires Inv-loop μ-loop
 answer-piece-requires c κs =
@@ -53,7 +53,7 @@ same-length-3 c =
     let i = l .inv in
     let read = c .before .before .before .before .before .before .before .before .before .before .before .before .before .before .before .before .before .before .before .before .before .before .read in
     let inside : l .have ≤ length (l .buf) = omega (arith, i .few, i .buf-length) in
-    c .before .before .before .before .before .before .before .before .before .answer-piece .kept .1 .1 .1 .1 .1 .1 .0 ∙ filled-length (l .buf) (l .have) (read .last .1 .0) inside (read .kept .1 .0) ∙ i .buf-length ∙ sym (c .before .before .before .before .before .before .before .before .before .before .before .before .before .before .before .before .before .before .before .before .before .before .before .before .before .before .before .before .pre .1 .0)
+    c .before .before .before .before .before .before .before .before .before .answer-piece .kept .1 .1 .1 .1 .1 .1 .1 .0 ∙ filled-length (l .buf) (l .have) (read .last .1 .0) inside (read .kept .1 .0) ∙ i .buf-length ∙ sym (c .before .before .before .before .before .before .before .before .before .before .before .before .before .before .before .before .before .before .before .before .before .before .before .before .before .before .before .before .pre .1 .0)
 
 same-length-5 : tie.Need-same-length-5 Inv-loop μ-loop
 same-length-5 c =
@@ -61,15 +61,15 @@ same-length-5 c =
     let i = l .inv in
     let read = c .before .before .before .before .before .before .before .before .before .before .before .before .before .before .before .before .before .before .before .before .before .before .read in
     let inside : l .have ≤ length (l .buf) = omega (arith, i .few, i .buf-length) in
-    c .before .before .before .before .before .before .before .before .before .answer-piece .kept .1 .1 .1 .1 .1 .1 .0 ∙ filled-length (l .buf) (l .have) (read .last .1 .0) inside (read .kept .1 .0) ∙ i .buf-length ∙ sym (c .before .before .before .before .before .before .before .before .before .before .before .before .before .before .before .before .before .before .before .before .before .before .before .before .before .before .before .before .pre .1 .0)
+    c .before .before .before .before .before .before .before .before .before .answer-piece .kept .1 .1 .1 .1 .1 .1 .1 .0 ∙ filled-length (l .buf) (l .have) (read .last .1 .0) inside (read .kept .1 .0) ∙ i .buf-length ∙ sym (c .before .before .before .before .before .before .before .before .before .before .before .before .before .before .before .before .before .before .before .before .before .before .before .before .before .before .before .before .pre .1 .0)
 
 same-length-4 : tie.Need-same-length-4 Inv-loop μ-loop
 same-length-4 c =
-    c .before .before .before .before .before .before .before .before .before .answer-piece .kept .1 .1 .1 .1 .1 .1 .1 .1 .1 .0 ∙ c .before .before .before .before .before .before .before .before .before .before .before .before .before .before .before .before .before .before .before .before .before .before .before .before .before .loop .inv .out-length ∙ sym (c .before .before .before .before .before .before .before .before .before .before .before .before .before .before .before .before .before .before .before .before .before .before .before .before .before .before .before .before .pre .1 .1)
+    c .before .before .before .before .before .before .before .before .before .answer-piece .kept .1 .1 .1 .1 .1 .1 .1 .1 .1 .1 .0 ∙ c .before .before .before .before .before .before .before .before .before .before .before .before .before .before .before .before .before .before .before .before .before .before .before .before .before .loop .inv .out-length ∙ sym (c .before .before .before .before .before .before .before .before .before .before .before .before .before .before .before .before .before .before .before .before .before .before .before .before .before .before .before .before .pre .1 .1)
 
 same-length-6 : tie.Need-same-length-6 Inv-loop μ-loop
 same-length-6 c =
-    c .before .before .before .before .before .before .before .before .before .answer-piece .kept .1 .1 .1 .1 .1 .1 .1 .1 .1 .0 ∙ c .before .before .before .before .before .before .before .before .before .before .before .before .before .before .before .before .before .before .before .before .before .before .before .before .before .loop .inv .out-length ∙ sym (c .before .before .before .before .before .before .before .before .before .before .before .before .before .before .before .before .before .before .before .before .before .before .before .before .before .before .before .before .pre .1 .1)
+    c .before .before .before .before .before .before .before .before .before .answer-piece .kept .1 .1 .1 .1 .1 .1 .1 .1 .1 .1 .0 ∙ c .before .before .before .before .before .before .before .before .before .before .before .before .before .before .before .before .before .before .before .before .before .before .before .before .before .loop .inv .out-length ∙ sym (c .before .before .before .before .before .before .before .before .before .before .before .before .before .before .before .before .before .before .before .before .before .before .before .before .before .before .before .before .pre .1 .1)
 
 loop-again : tie.Need-loop-again Inv-loop μ-loop
 loop-again c =
@@ -82,7 +82,7 @@ loop-again c =
     let n = c .before .before .before .before .before .before .before .before .before .before .before .before .before .before .before .before .count in
     let room : l .have + n .result ≤ length B = omega (arith, size, inside, n .ensures .0 .0, part-length (l .have) B) in
     let a = c .before .before .before .before .before .before .before .before .before .answer-piece in
-    again i B (filled-same (l .buf) (l .have) (read .last .1 .0) inside) (n .result) room (size ∙ i .buf-length) (a .result) (a .last .1 .1 .1 .1 .1 .1 .0) (a .last .1 .1 .1 .1 .1 .1 .1 .1 .1 .0) (a .ensures) (omega (arith, c .before .before .before .before .before .before .before .before .before .before .before .before .before .before .before .before .before .before .before .before .before .before .before .before .loop-test)) (a .kept .1 .1 .1 .1 .1 .1 .0 ∙ size ∙ i .buf-length) (a .kept .1 .1 .1 .1 .1 .1 .1 .1 .1 .0 ∙ i .out-length) (not-false _ (c .if3 .left))
+    again i B (filled-same (l .buf) (l .have) (read .last .1 .0) inside) (n .result) room (size ∙ i .buf-length) (a .result) (a .last .1 .1 .1 .1 .1 .1 .1 .0) (a .last .1 .1 .1 .1 .1 .1 .1 .1 .1 .1 .0) (a .ensures) (omega (arith, c .before .before .before .before .before .before .before .before .before .before .before .before .before .before .before .before .before .before .before .before .before .before .before .before .loop-test)) (a .kept .1 .1 .1 .1 .1 .1 .1 .0 ∙ size ∙ i .buf-length) (a .kept .1 .1 .1 .1 .1 .1 .1 .1 .1 .1 .0 ∙ i .out-length) (not-false _ (c .if3 .left))
 
 returns : tie.Need-returns Inv-loop μ-loop
 returns c = led-now (c .before .before .before .before .before .before .before .before .loop .inv)
@@ -98,7 +98,7 @@ returns-2 c =
     let n = c .before .before .before .before .before .before .before .before .before .before .before .before .before .before .before .before .count in
     let room : l .have + n .result ≤ length B = omega (arith, size, inside, n .ensures .0 .0, part-length (l .have) B) in
     let a = c .before .before .before .before .before .before .before .before .before .answer-piece in
-    led-on i B (filled-same (l .buf) (l .have) (read .last .1 .0) inside) (n .result) room (size ∙ i .buf-length) (a .result) (a .last .1 .1 .1 .1 .1 .1 .0) (a .last .1 .1 .1 .1 .1 .1 .1 .1 .1 .0) (a .ensures)
+    led-on i B (filled-same (l .buf) (l .have) (read .last .1 .0) inside) (n .result) room (size ∙ i .buf-length) (a .result) (a .last .1 .1 .1 .1 .1 .1 .1 .0) (a .last .1 .1 .1 .1 .1 .1 .1 .1 .1 .1 .0) (a .ensures)
 
 returns-3 : tie.Need-returns-3 Inv-loop μ-loop
 returns-3 c =
@@ -111,7 +111,7 @@ returns-3 c =
     let n = c .before .before .before .before .before .before .before .before .before .before .before .before .before .before .before .before .count in
     let room : l .have + n .result ≤ length B = omega (arith, size, inside, n .ensures .0 .0, part-length (l .have) B) in
     let a = c .before .before .before .before .before .before .before .before .before .answer-piece in
-    led-on i B (filled-same (l .buf) (l .have) (read .last .1 .0) inside) (n .result) room (size ∙ i .buf-length) (a .result) (a .last .1 .1 .1 .1 .1 .1 .0) (a .last .1 .1 .1 .1 .1 .1 .1 .1 .1 .0) (a .ensures)
+    led-on i B (filled-same (l .buf) (l .have) (read .last .1 .0) inside) (n .result) room (size ∙ i .buf-length) (a .result) (a .last .1 .1 .1 .1 .1 .1 .1 .0) (a .last .1 .1 .1 .1 .1 .1 .1 .1 .1 .1 .0) (a .ensures)
 
 returns-4 : tie.Need-returns-4 Inv-loop μ-loop
 returns-4 c = led-now (c .before .loop .inv)

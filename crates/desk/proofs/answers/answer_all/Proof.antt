@@ -11,16 +11,16 @@ use Rattle.desk.proofs.answers.answer_all.Statement.{statement}
 use Rattle.desk.proofs.answers.answer_all.Tie as tie
 
 abbrev Inv-loop : tie.InvT-loop
-Inv-loop why base₀ log₀ current₀ last₀ first requests ended out₀ ordinal₀ used₀ text₀ base log current last out ordinal used text =
-    (length out ≡ length out₀) × SoFar why ended (shown base₀ log₀ current₀ last₀) first requests (shown base log current last) ordinal used text out
+Inv-loop why base₀ log₀ current₀ last₀ rule first requests ended out₀ ordinal₀ used₀ text₀ base log current last out ordinal used text =
+    (length out ≡ length out₀) × SoFar rule why ended (shown base₀ log₀ current₀ last₀) first requests (shown base log current last) ordinal used text out
 
 abbrev μ-loop : tie.MeasureT-loop
-μ-loop why base₀ log₀ current₀ last₀ first requests ended out₀ ordinal₀ used₀ text₀ base log current last out ordinal used text =
+μ-loop why base₀ log₀ current₀ last₀ rule first requests ended out₀ ordinal₀ used₀ text₀ base log current last out ordinal used text =
     length requests - used
 
 loop-holds : tie.Need-loop-holds Inv-loop μ-loop
 loop-holds c =
-    (refl, at-first _ _ _ _ _ _)
+    (refl, at-first _ _ _ _ _ _ _)
 
 answer-next-requires : tie.Need-answer-next-requires Inv-loop μ-loop
 answer-next-requires c κs =
@@ -47,7 +47,7 @@ loop-again c =
     let n = c .before .before .before .before .before .answer-next in
     let l = c .before .before .before .before .before .before .before .before .before .before .before .before .before .loop in
     let s = c .before .before .before .before .before .before .before .before .before .before .before .before .before .before .before .before in
-    (n .kept .1 .1 .1 .1 .1 .1 .1 .1 .0 ∙ l .inv .0, goes (l .inv .1) (now (s .args .out)) (omega (arith, c .before .before .before .before .before .before .before .before .before .before .before .before .if1 .left)) (n .result) (n .last .1 .1 .1 .1 .1 .1 .1 .1 .0) (n .ensures) (c .if2 .left))
+    (n .kept .1 .1 .1 .1 .1 .1 .1 .1 .1 .0 ∙ l .inv .0, goes (l .inv .1) (now (s .args .out)) (omega (arith, c .before .before .before .before .before .before .before .before .before .before .before .before .if1 .left)) (n .result) (n .last .1 .1 .1 .1 .1 .1 .1 .1 .1 .0) (n .ensures) (c .if2 .left))
 
 returns : tie.Need-returns Inv-loop μ-loop
 returns c =
@@ -63,8 +63,8 @@ returns-2 c =
     let s = c .before .before .before .before .before .before .before .before .before .before .before .before .before .before .before .before in
     let w = l .inv .1 in
     let less = c .before .before .before .before .before .before .before .before .before .before .before .before .if1 .left in
-    let near = text-fits w (now (s .args .out)) (omega (arith, less)) (n .result) (n .last .1 .1 .1 .1 .1 .1 .1 .1 .0) (n .ensures) in
-    stays w (now (s .args .out)) (omega (arith, less)) (n .result) (n .last .1 .1 .1 .1 .1 .1 .1 .1 .0) (n .ensures) (c .if2 .taken) (omega (arith, near, n .kept .1 .1 .1 .1 .1 .1 .1 .1 .0, l .inv .0, w .short, w .in-piece, s .pre, less))
+    let near = text-fits w (now (s .args .out)) (omega (arith, less)) (n .result) (n .last .1 .1 .1 .1 .1 .1 .1 .1 .1 .0) (n .ensures) in
+    stays w (now (s .args .out)) (omega (arith, less)) (n .result) (n .last .1 .1 .1 .1 .1 .1 .1 .1 .1 .0) (n .ensures) (c .if2 .taken) (omega (arith, near, n .kept .1 .1 .1 .1 .1 .1 .1 .1 .1 .0, l .inv .0, w .short, w .in-piece, s .pre, less))
 
 pub answer-all-spec : {M : Type 1} → statement M
 answer-all-spec =

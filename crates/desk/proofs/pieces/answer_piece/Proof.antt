@@ -31,7 +31,7 @@ returns c =
     let s = c .before .before .before .before .before .before .before .before .before .before .before .before .before .before .before in
     let a = c .before .before .before .before .before .before .answer-all in
     let k = c .before .before .keep in
-    turned _ _ _ (now (s .args .buf)) (s .args .have) (s .args .got) (s .pre .0) (a .result) (a .ensures) (k .result) (k .last .0) (k .ensures .0) (k .ensures .1)
+    turned _ _ _ _ (now (s .args .buf)) (s .args .have) (s .args .got) (s .pre .0) (a .result) (a .ensures) (k .result) (k .last .0) (k .ensures .0) (k .ensures .1)
 
 pub answer-piece-spec : {M : Type 1} → statement M
 answer-piece-spec =
