@@ -1,6 +1,5 @@
 // Holds the program to images: stored ones with the answer that each names, and every small change of a middling one.
 
-use crate::desk::Desk;
 use crate::drive::{hex_file, Opening, Program, Ran, Wanted};
 use crate::generate::{going_on, Chance};
 use crate::image::{self, faults};
@@ -42,9 +41,9 @@ impl Counts {
 fn compare(program: &Program, bytes: &[u8], counts: &mut Counts) -> Result<(), String> {
     let ran = program.run(Opening::From(bytes), &[], false).map_err(|error| error.to_string())?;
     match image::read(bytes) {
-        Ok((house, last)) => {
+        Ok(desk) => {
             counts.accepted += 1;
-            if image::write(&house, last) != bytes {
+            if image::write(&desk) != bytes {
                 return Err("the model writes what it read as other bytes".into());
             }
             held(&ran, &Wanted { out: &[], errors: "", saved: Some(bytes) })
@@ -97,20 +96,20 @@ const GOING_ON: usize = 60;
 
 /// A generated run on an accepted image, with reasons; first an administrator's take-back, which is 12.
 fn go_on(program: &Program, bytes: &[u8]) -> Result<usize, String> {
-    let Ok((house, last)) = image::read(bytes) else { return Ok(0) };
+    let Ok(desk) = image::read(bytes) else { return Ok(0) };
     let mut run = Vec::new();
-    let administrator = house.users.iter().find(|(_, user)| user.administrator).map(|(u, _)| *u);
+    let administrator = desk.house.users.iter().find(|(_, user)| user.administrator).map(|(u, _)| *u);
     if let Some(u) = administrator {
         run.extend([0x20, u]);
     }
-    run.extend(going_on(bytes.len() as u64, GOING_ON, Desk::of(house.clone(), last), true));
-    let mut desk = Checked::of(Desk::of(house, last));
+    run.extend(going_on(bytes.len() as u64, GOING_ON, desk.clone(), true));
+    let mut desk = Checked::of(desk);
     let out = lines(&mut desk, &run, true)?;
     if administrator.is_some() && !out.starts_with("1 20 CC - 12 00 0 0 0\n") {
         return Err("the model takes back right after opening".into());
     }
     let ran = program.run(Opening::From(bytes), &run, true).map_err(|error| error.to_string())?;
-    let saved = image::write(&desk.desk.house, desk.desk.last);
+    let saved = image::write(&desk.desk);
     held(&ran, &Wanted { out: out.as_bytes(), errors: "", saved: Some(&saved) })?;
     Ok(out.lines().count())
 }
