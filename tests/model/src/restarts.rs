@@ -29,13 +29,13 @@ fn reopened(desk: &Checked) -> Result<Desk, String> {
 /// How many Imports after a restart the other rule would have answered otherwise, by the rule: granted under rule 2, refused under rule 1. A restart
 /// that loses the rule shows in these alone.
 #[derive(Default)]
-struct ByRule {
+pub struct ByRule {
     granted: usize,
     refused: usize,
 }
 
 impl ByRule {
-    fn count(&mut self, opened: &Desk, run: &[u8]) {
+    pub fn count(&mut self, opened: &Desk, run: &[u8]) {
         let mut desk = opened.clone();
         let mut left = run;
         while let Frame::Whole(request, length) = frame(left) {
@@ -49,11 +49,11 @@ impl ByRule {
         }
     }
 
-    fn words(&self) -> String {
+    pub fn words(&self) -> String {
         format!("{} Imports after opening granted by rule 2 alone, {} refused by rule 1 alone", self.granted, self.refused)
     }
 
-    fn too_few(&self) -> bool {
+    pub fn too_few(&self) -> bool {
         self.granted < 5 || self.refused < 5
     }
 }
