@@ -36,7 +36,7 @@ const USAGE: &str = "usage:
 model [--last N | --from IMAGE] [--rule R] [--save IMAGE] [--why] < requests       (stands in for the program `desk`)
 model run [--last N | --from IMAGE] [--rule R] [--save IMAGE] [--why] < requests   (--opened is --last)
 model generate SEED COUNT [--opened N] [--rule R] [--whole] > requests
-model rule SEED                  (the rule under which a seed's run goes in a comparison)
+model rule-of SEED               (the rule under which a seed's run goes in a comparison)
 model requests < requests        (ordinal and hex, a line each)
 model pieces < bytes > bytes     (the same bytes, written in odd pieces)
 model batch < cases              (NAME LAST ROOM PLACE REQUESTS, a line each; LAST is N, N/R or +)
@@ -52,7 +52,7 @@ model image-runs FOLDER SEED COUNT -- PROGRAM..
 model restarts FOLDER SEED COUNT -- PROGRAM..
 model killed FOLDER [--by-chance] -- PROGRAM..
 model unread -- COMMAND..        (with a standard output that nobody reads)";
-const WORDS: [&str; 9] = ["run", "generate", "rule", "requests", "pieces", "batch", "batches", "coverage", "stored"];
+const WORDS: [&str; 9] = ["run", "generate", "rule-of", "requests", "pieces", "batch", "batches", "coverage", "stored"];
 const DRIVING: [&str; 8] =
     ["make-images", "judged", "stored-images", "changed-images", "image-runs", "restarts", "killed", "unread"];
 
@@ -143,7 +143,7 @@ fn own(word: &str, mut rest: Vec<String>) -> io::Result<()> {
         ("generate", [seed, count]) => {
             io::stdout().write_all(&generate::generate(*seed, *count as usize, opened, rule, whole))
         }
-        ("rule", [seed]) => writeln!(io::stdout(), "{}", Rule::of_seed(*seed).number()),
+        ("rule-of", [seed]) => writeln!(io::stdout(), "{}", Rule::of_seed(*seed).number()),
         ("requests", []) => requests(),
         ("pieces", []) => pieces::write(&input()?),
         ("batch", []) => batch(),
