@@ -140,7 +140,7 @@ impl Player {
                 return request;
             }
         }
-        if self.importing && self.chance.percent(if spent { 75 } else { 12 }) {
+        if self.importing && self.chance.percent(if spent { 40 } else { 12 }) {
             // Not every pair of labels is there.
             for _ in 0..3 {
                 if let Some(request) = self.any_import() {
