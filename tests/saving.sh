@@ -111,11 +111,11 @@ is_image ../gone-on image
 "$model" run < other > ../lines
 rm image
 
-# Under rule 2, which the image then says: with and without an old image of the other rule, and over the image that was opened.
+# Under rule 2, which the image then says: over an image of rule 1, where there was none, and over the image that was opened.
 "$model" run --rule 2 --save ../new-2 < other > ../lines
-for image in ../old ../new-2; do
+for there in old none; do
     rm -f image
-    [ "$image" = ../new-2 ] || cp "$image" image
+    [ "$there" = none ] || cp ../old image
     try --rule 2 --save image
     [ "$status" = 0 ] || wrong "ended with $status: $(head -n 1 ../errors)"
     printed

@@ -322,11 +322,11 @@ impl Desk {
         Desk { base: house.clone(), house, last, rule, changes: Vec::new(), kept: 0 }
     }
 
-    /// Whether a desk that is the same but for its rule would answer otherwise.
+    /// Whether of this desk and the same under the other rule one grants the request and one refuses it.
     pub fn asks_its_rule(&self, request: &Request) -> bool {
         let rule = if self.rule == Rule::One { Rule::Two } else { Rule::One };
-        let number = |desk: &Desk| desk.refusal(request).map(|(n, _)| n);
-        number(self) != number(&Desk { rule, ..self.clone() })
+        let other = Desk { rule, ..self.clone() };
+        self.refusal(request).is_none() != other.refusal(request).is_none()
     }
 
     /// The changes that are kept no longer, and those that are.

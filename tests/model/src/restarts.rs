@@ -26,8 +26,8 @@ fn reopened(desk: &Checked) -> Result<Desk, String> {
     Ok(again)
 }
 
-/// How many Imports after a restart the other rule would have answered otherwise, by the rule: granted under rule 2, refused under rule 1. A restart
-/// that loses the rule shows in these alone.
+/// How many Imports after an opening were granted by rule 2 where rule 1 refuses them, and refused by rule 1 where rule 2 grants them. An opening that loses
+/// the rule shows in these alone.
 #[derive(Default)]
 pub struct ByRule {
     granted: usize,
@@ -54,7 +54,7 @@ impl ByRule {
     }
 
     pub fn too_few(&self) -> bool {
-        self.granted < 5 || self.refused < 5
+        self.granted == 0 || self.refused == 0
     }
 }
 
@@ -97,7 +97,9 @@ pub fn pairs(program: &Program, seed: u64, count: usize) -> Result<(), String> {
         second_rule += (rule == Rule::Two) as usize;
         largest = largest.max(bytes.len()).max(image_of(&desk).len());
     }
-    let said = format!("{count} pairs of runs ({second_rule} under rule 2, {reasons} with reasons, {answered} lines, images of up to {largest} bytes; {})", by_rule.words());
+    let by = by_rule.words();
+    let tried = format!("{second_rule} under rule 2, {reasons} with reasons, {answered} lines, images of up to {largest} bytes; {by}");
+    let said = format!("{count} pairs of runs ({tried})");
     if count < 60 || largest < 2500 || reasons < count / 3 || second_rule < count / 3 || by_rule.too_few() {
         return Err(format!("too little is tried: {said}"));
     }
@@ -173,7 +175,8 @@ pub fn restarts(program: &Program, seed: u64, count: usize) -> Result<(), String
         across += restarted.across.len();
         second_rule += (rule == Rule::Two) as usize;
     }
-    let said = format!("{count} restarts ({second_rule} under rule 2, {answered} lines; {without} runs as in one piece, {with} but for {across} take-backs across, refused with 12; {})", by_rule.words());
+    let pieces = format!("{without} runs as in one piece, {with} but for {across} take-backs across, refused with 12");
+    let said = format!("{count} restarts ({second_rule} under rule 2, {answered} lines; {pieces}; {})", by_rule.words());
     if with < 2 || without < 2 || second_rule < count / 3 || by_rule.too_few() {
         return Err(format!("too little is tried: {said}"));
     }
