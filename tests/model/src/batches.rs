@@ -1,8 +1,9 @@
 // The generator of cases for the batch: generated runs cut into pieces, with rooms and places at and around their bounds.
 
 use crate::batch::{hex, Case, Done, CUT, UNKNOWN};
-use crate::desk::Desk;
+use crate::desk::{Desk, STAFF};
 use crate::generate::{going_on, unknown_kind, Chance};
+use crate::request::Request::*;
 use crate::request::{frame, Frame};
 use crate::rules::Checked;
 
@@ -25,6 +26,10 @@ pub fn batches(seed: u64, count: usize) -> Result<String, String> {
     let single = chance.below(3) == 0;
     let anew = if single { 0 } else { 25 };
     let mut writer = Writer { chance, anew, desk: None, text: format!("# seed {seed}\n"), cases: 0 };
+    // First of all each opening once with Imports that show its rule.
+    for rule in [1, 2, writer.no_rule()] {
+        writer.rule_shows(rule)?;
+    }
     let mut left = count;
     while left > 0 {
         let most = if single { left } else { left.min(20 + writer.chance.below(300)) };
@@ -54,8 +59,33 @@ impl Writer {
         match self.chance.below(100) {
             0..=42 => 1,
             43..=92 => 2,
-            _ => [0, 3, 7, u32::MAX][self.chance.below(4)],
+            _ => self.no_rule(),
         }
+    }
+
+    fn no_rule(&mut self) -> u32 {
+        [0, 3, 7, u32::MAX][self.chance.below(4)]
+    }
+
+    /// A case on a desk opened under that number: a draft of a room goes into house scripts that are equal, higher, have more categories, fewer, and are lower.
+    fn rule_shows(&mut self, rule: u32) -> Result<(), String> {
+        let last = self.chance.below(1000) as u32;
+        let v = Desk::open_under(last, rule).last + 1;
+        let mut requests = vec![
+            Enrol { u: 0, new: 0, sort: STAFF, level: 7, c: 0xFFFF, admin: 1 },
+            Establish { u: 0, room: 1 },
+            JoinStaff { u: 0, w: 0, room: 1 },
+            OpenRoom { u: 0, s: 0, room: 1, level: 3, c: 0x0003 },
+            Create { s: 0, script: 0 },
+        ];
+        let labels = [(3, 0x0003), (4, 0x0003), (3, 0x0007), (4, 0x0001), (2, 0x0007)];
+        for (id, (level, c)) in (1..).zip(labels) {
+            requests.extend([OpenHouse { u: 0, s: id, level, c }, Create { s: id, script: id }]);
+            requests.push(Import { u: 0, script1: 0, v, script2: id, room: 1 });
+        }
+        let bytes: Vec<u8> = requests.iter().flat_map(|request| request.bytes()).collect();
+        self.case_at(Some((last, rule)), &bytes, 5 * requests.len(), 0)?;
+        Ok(())
     }
 
     /// Cases that give the run to a desk opened anew; false once the text is long enough.
@@ -121,6 +151,10 @@ impl Writer {
     fn case(&mut self, opening: Option<(u32, u32)>, requests: &[u8]) -> Result<Option<Done>, String> {
         let room = self.room();
         let place = self.place(room);
+        self.case_at(opening, requests, room, place)
+    }
+
+    fn case_at(&mut self, opening: Option<(u32, u32)>, requests: &[u8], room: usize, place: u64) -> Result<Option<Done>, String> {
         let name = format!("c{}", self.cases + 1);
         let line = self.line(&name, opening, room, place, requests);
         if self.text.len() + line.len() > MOST_TEXT {
