@@ -1,8 +1,8 @@
 /*
  * The desk's rules in C, written for speed: what the proved program is measured against.
  *
- * Reads requests from standard input and prints a line for each answer, as the program does, with --last, --from and --save as there (an
- * image is written over the old one, at once). It is tested against that program on the measured streams and images, and is otherwise
+ * Reads requests from standard input and prints a line for each answer, as the program does, with --last, --rule, --from and --save as there
+ * (an image is written over the old one, at once). It is tested against that program on the measured streams and images, and is otherwise
  * not part of the desk.
  */
 #include <fcntl.h>
@@ -31,6 +31,7 @@ static struct house base, current;
 static struct change logged[32];
 static unsigned oldest, kept;
 static uint32_t last;
+static unsigned rule = 1; /* of Import: 1 equal labels, 2 the house script's covers the room script's */
 
 static const uint8_t lengths[33] = {255, 7, 2, 3, 3, 6, 3, 7, 7, 8, 7, 2, 255, 255, 255, 255, 6, 5, 5, 6, 6, 2, 2,
                                     255, 255, 255, 255, 255, 255, 255, 255, 255, 1};
@@ -280,7 +281,8 @@ static int judge_drafts(const uint8_t *f)
     two = &h->scripts[f[7]];
     if (one->origin != room || two->origin != 0)
         return 8;
-    refusal = differ(one->level, one->categories, two->level, two->categories);
+    refusal = rule == 1 ? differ(one->level, one->categories, two->level, two->categories)
+                        : above(one->level, one->categories, two->level, two->categories);
     return refusal ? refusal : h->live < 256 ? 0 : 10;
 }
 
@@ -479,7 +481,7 @@ static int load(const char *name)
     while (n < sizeof image && (got = read(fd, image + n, sizeof image - n)) > 0)
         n += (size_t)got;
     close(fd);
-    refusal = n == sizeof image ? 15 : open_image(image, n, &current, &last);
+    refusal = n == sizeof image ? 15 : open_image(image, n, &current, &last, &rule);
     if (refusal)
         return fprintf(stderr, "desk: %s: refused %d\n", name, refusal), 1;
     base = current;
@@ -489,7 +491,7 @@ static int load(const char *name)
 static int save(const char *name)
 {
     static uint8_t image[IMAGE_MAX];
-    size_t n = image_of(&current, last, image);
+    size_t n = image_of(&current, last, rule, image);
     int fd = open(name, O_WRONLY | O_CREAT | O_TRUNC, 0600);
     if (fd < 0 || write(fd, image, n) != (ssize_t)n || close(fd))
         return perror(name), 1;
@@ -527,6 +529,14 @@ static void serve(void)
     }
 }
 
+static int open_under(const char *number)
+{
+    rule = (unsigned)strtoul(number, 0, 10);
+    if (rule == 1 || rule == 2)
+        return 0;
+    return fprintf(stderr, "desk: --rule %u: refused 3\n", rule), 1;
+}
+
 int main(int argc, char **argv)
 {
     const char *to = 0;
@@ -535,7 +545,7 @@ int main(int argc, char **argv)
             last = (uint32_t)strtoul(argv[2], 0, 10);
         else if (!strcmp(argv[1], "--save"))
             to = argv[2];
-        else if (strcmp(argv[1], "--from") || load(argv[2]))
+        else if (!strcmp(argv[1], "--rule") ? open_under(argv[2]) : strcmp(argv[1], "--from") || load(argv[2]))
             return 1;
     serve();
     return to ? save(to) : 0;

@@ -1,11 +1,12 @@
 /*
  * Images in C: the records of a house written as bytes, and read back where they keep every rule. A part of bench/desk.c.
  *
- * Kinds in this order, ids and numbers ascending: 40 counter, 41 user, 42 room, 43 script, 44 session, 45 draft.
+ * Kinds in this order, ids and numbers ascending: 40 counter, 41 user, 42 room, 43 script, 44 session, 45 draft. A lone 46 directly
+ * behind the counter says rule 2.
  */
-enum { IMAGE_MAX = 5 + 64 * 15 + 16 * 2 + 64 * 6 + 64 * 8 + 256 * 10 };
+enum { IMAGE_MAX = 6 + 64 * 15 + 16 * 2 + 64 * 6 + 64 * 8 + 256 * 10 };
 
-static const uint8_t image_lengths[6] = {4, 14, 1, 5, 7, 9};
+static const uint8_t image_lengths[7] = {4, 14, 1, 5, 7, 9, 0};
 
 static uint8_t *put_four(uint8_t *b, uint32_t n)
 {
@@ -19,12 +20,14 @@ static uint8_t *put_label(uint8_t *b, unsigned level, unsigned categories)
     return b + 3;
 }
 
-static size_t image_of(const struct house *h, uint32_t number, uint8_t *image)
+static size_t image_of(const struct house *h, uint32_t number, unsigned import_rule, uint8_t *image)
 {
     uint8_t *b = image;
     unsigned i;
     *b++ = 0x40;
     b = put_four(b, number);
+    if (import_rule == 2)
+        *b++ = 0x46;
     for (i = 0; i < 64; i++)
         if (h->users[i].here) {
             const struct user *u = &h->users[i];
@@ -145,7 +148,7 @@ static int keeps_rules(const struct house *h, uint32_t number)
 }
 
 /* 0, or 14, or 15; the frames are walked first */
-static int open_image(const uint8_t *b, size_t n, struct house *h, uint32_t *number)
+static int open_image(const uint8_t *b, size_t n, struct house *h, uint32_t *number, unsigned *import_rule)
 {
     size_t at;
     unsigned kind = 0x40;
@@ -153,7 +156,7 @@ static int open_image(const uint8_t *b, size_t n, struct house *h, uint32_t *num
     if (n == 0)
         return 14;
     for (at = 0; at < n; at += 1u + image_lengths[b[at] - 0x40]) {
-        if (b[at] < 0x40 || b[at] > 0x45)
+        if (b[at] < 0x40 || b[at] > 0x46)
             return 15;
         if (n - at <= image_lengths[b[at] - 0x40])
             return 14;
@@ -161,9 +164,10 @@ static int open_image(const uint8_t *b, size_t n, struct house *h, uint32_t *num
     if (b[0] != 0x40)
         return 15;
     *number = number_at(b + 1);
+    *import_rule = n > 5 && b[5] == 0x46 ? 2 : 1;
     memset(h, 0, sizeof *h);
-    for (at = 5; at < n; at += 1u + image_lengths[b[at] - 0x40]) {
-        if (b[at] < kind || b[at] == 0x40)
+    for (at = *import_rule == 2 ? 6 : 5; at < n; at += 1u + image_lengths[b[at] - 0x40]) {
+        if (b[at] < kind || b[at] == 0x40 || b[at] == 0x46)
             return 15;
         if (b[at] != kind)
             kind = b[at], id = -1;

@@ -26,14 +26,16 @@ model=$(sh "$root/tests/build-model.sh")
 
 now() { date +%s%N; }
 
-# Nanoseconds of the C version and of the program on a stream that both answer alike.
-measure() {
-    "$work/c" <"$1" >"$work/c.out"
-    "$desk" <"$1" >"$work/desk.out"
+# Nanoseconds of the C version and of the program on a stream that both answer alike, each with the words given.
+measure() { # STREAM [WORD..]
+    stream=$1
+    shift
+    "$work/c" "$@" <"$stream" >"$work/c.out"
+    "$desk" "$@" <"$stream" >"$work/desk.out"
     cmp "$work/c.out" "$work/desk.out" >&2 || { echo "bench: the two answer differently" >&2; exit 1; }
     best_c=999999999999 best_desk=999999999999
     for i in $(seq "$runs"); do
-        a=$(now); "$work/c" <"$1" >/dev/null; b=$(now); "$desk" <"$1" >/dev/null; c=$(now)
+        a=$(now); "$work/c" "$@" <"$stream" >/dev/null; b=$(now); "$desk" "$@" <"$stream" >/dev/null; c=$(now)
         [ $((b - a)) -ge "$best_c" ] || best_c=$((b - a))
         [ $((c - b)) -ge "$best_desk" ] || best_desk=$((c - b))
     done
@@ -53,12 +55,14 @@ opening() { # PROGRAM
     awk 'NR == FNR { plain = $1; next } { printf "%.0f", ($1 - plain) / 1000 }' "$work/plain" "$work/opened"
 }
 
-# An image of a full desk that both programs write alike.
+# An image of a full desk that both programs write alike, under either rule.
 images() {
     "$work/streams" take-backs 1 >"$work/one" 2>"$work/setup"
-    "$work/c" --save "$work/image" <"$work/one" >"$work/c.out"
-    "$desk" --save "$work/desk.image" <"$work/one" >"$work/desk.out"
-    cmp "$work/image" "$work/desk.image" >&2 || { echo "bench: the two write different images" >&2; exit 1; }
+    for rule in 2 1; do
+        "$work/c" --rule "$rule" --save "$work/image" <"$work/one" >"$work/c.out"
+        "$desk" --rule "$rule" --save "$work/desk.image" <"$work/one" >"$work/desk.out"
+        cmp "$work/image" "$work/desk.image" >&2 || { echo "bench: the two write different images" >&2; exit 1; }
+    done
     echo
     echo "A full desk's image, $(wc -c <"$work/image") bytes, opened: $(opening "$work/c") microseconds in C, $(opening "$desk") in the desk (the least of 2000 starts with it, less the least without)."
 }
@@ -86,6 +90,13 @@ results() {
         printf "Copied by calls of memcpy (%d, %d bytes) and memmove (%d, %d bytes): %.1f bytes a request. ", $2, $3, $5, $6, ($3 + $6) / n
         printf "Calls as large as a table: %d, %d bytes, for %d granted take-backs; without these %.1f bytes a request, the digits of the lines.\n", $8, $9, back, ($3 + $6 - $9) / n
     }' "$work/copied"
+    echo
+    # A seed with many Imports.
+    "$model" generate 18 "$requests" --rule 2 --whole >"$work/mixed-2"
+    measure "$work/mixed-2" --rule 2
+    awk -v c="$best_c" -v d="$best_desk" '
+        $2 == "09" { imports++ } $2 == "09" && $3 == "81" { granted++ }
+        END { printf "Under rule 2, %d mixed requests, %d of them Imports, %d of these granted: ratio %.2f.\n", NR, imports, granted, d / c }' "$work/desk.out"
     echo
     echo "Nanoseconds each, whole runs divided by their number:"
     echo

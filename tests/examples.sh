@@ -1,11 +1,11 @@
 #!/bin/sh
-# Runs the examples through the program, with and without --why, and compares its lines with those stored beside them; the image that the evening leaves too. DESK
-# names another program.
+# Runs the examples through the program, with and without --why, and compares its lines with those stored beside them; the image that the evening leaves too, and
+# the evening of the merged house under both rules. DESK names another program.
 set -eu
 root=$(CDPATH='' cd -- "$(dirname -- "$0")/.." && pwd -P)
 cd "$root"
 lines=0
-compare() { # EXPECTED [--why] [--from IMAGE] [FILE]
+compare() { # EXPECTED [--why] [--rule R] [--from IMAGE] [FILE]
     expected=$1
     shift
     got=$(sh examples/run "$@")
@@ -24,6 +24,10 @@ compare examples/refused.out examples/refused.hex
 compare examples/refused.why --why examples/refused.hex
 compare examples/monday.out --from examples/saturday.hex examples/monday.hex
 compare examples/monday.why --why --from examples/saturday.hex examples/monday.hex
+compare examples/merged.out --rule 2 examples/merged.hex
+compare examples/merged.why --why --rule 2 examples/merged.hex
+compare examples/merged-rule-1.out --rule 1 examples/merged.hex
+compare examples/merged-rule-1.out examples/merged.hex
 
 # The image in hex is the one that the evening leaves.
 work=$(mktemp -d)

@@ -1,6 +1,6 @@
 #!/bin/sh
 # Compares the program with the second desk on images: the stored ones of tests/images, every small change of a middling one, images of generated
-# runs, which are opened and gone on with, and runs with a restart in them beside the same runs in one piece.
+# runs, which are opened and gone on with, and runs with a restart in them beside the same runs in one piece. All under both rules of Import.
 # SEED=7 repeats that seed's runs; DESK names another program.
 set -eu
 root=$(CDPATH='' cd -- "$(dirname -- "$0")/.." && pwd -P)
@@ -35,6 +35,7 @@ part() { # WORD..
 }
 part stored-images "$work/files" "$images"/*.hex -- "$@"
 part changed-images "$work/files" "$images/middling.hex" -- "$@"
+part changed-images "$work/files" "$images/middling-rule-2.hex" -- "$@"
 part image-runs "$work/files" "$seed" 72 -- "$@"
 part restarts "$work/files" "$seed" 80 -- "$@"
 echo "images: seed $seed: ${parts}no difference"

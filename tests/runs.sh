@@ -1,5 +1,6 @@
 #!/bin/sh
-# Compares the program's lines with the stored runs of tests/runs: NAME.out, and with --why NAME.why where that stands.
+# Compares the program's lines with the stored runs of tests/runs: NAME.out, and with --why NAME.why where that stands. A run whose name begins with rule-1-
+# or rule-2- is opened under that rule; such runs come in pairs, with the same requests.
 # runs.sh [PROGRAM [NAME..]]: another program, or some runs alone; DESK also names the program.
 set -eu
 root=$(cd "$(dirname "$0")/.." && pwd)
@@ -43,8 +44,8 @@ if [ $# -eq 0 ]; then
         set -- "$@" "${name%.hex}"
     done
 fi
-# Compares what the program prints for the run, with the word given, with a stored file.
-compare() { # EXPECTED [WORD]
+# Compares what the program prints for the run, with the words given, with a stored file.
+compare() { # EXPECTED [WORD..]
     expected=$1
     shift
     status=0
@@ -58,7 +59,7 @@ compare() { # EXPECTED [WORD]
         { if ((getline line < other) <= 0) line = "(nothing)" }
         line != $0 { print NR; found = 1; exit }
         END { if (!found) print NR + 1 }' "$expected")
-    echo "run $name${1:+ $1}, request $ordinal differs: $(sed -n "${ordinal}p" "$work/hex")"
+    echo "run $name${*:+ $*}, request $ordinal differs: $(sed -n "${ordinal}p" "$work/hex")"
     echo "  expected: $(sed -n "${ordinal}p" "$expected")"
     echo "  program:  $(sed -n "${ordinal}p" "$work/got")"
     [ "$status" = 0 ] || echo "  the program ended with $status"
@@ -67,13 +68,22 @@ compare() { # EXPECTED [WORD]
 failed=0
 total=0
 whys=0
+second=0
 for name in "$@"; do
     plain "$root/tests/runs/$name.hex" > "$work/hex"
     bytes < "$work/hex" > "$work/run"
-    compare "$root/tests/runs/$name.out"
+    rule=
+    case $name in
+    rule-1-*) rule='--rule 1' other=rule-2-${name#rule-1-} ;;
+    rule-2-*) rule='--rule 2' other=rule-1-${name#rule-2-} second=$((second + 1)) ;;
+    esac
+    if [ -n "$rule" ]; then
+        plain "$root/tests/runs/$other.hex" | cmp -s - "$work/hex" || { echo "runs.sh: $name and $other have different requests" >&2; exit 1; }
+    fi
+    compare "$root/tests/runs/$name.out" $rule
     [ -e "$root/tests/runs/$name.why" ] || continue
     whys=$((whys + 1))
-    compare "$root/tests/runs/$name.why" --why
+    compare "$root/tests/runs/$name.why" $rule --why
 done
 [ "$failed" = 0 ] || { echo "$failed of $(($# + whys)) comparisons differ"; exit 1; }
-echo "$# runs, $whys of them with their reasons too, $total lines, no difference"
+echo "$# runs, $second of them under rule 2, $whys with their reasons too, $total lines, no difference"

@@ -111,6 +111,24 @@ is_image ../gone-on image
 "$model" run < other > ../lines
 rm image
 
+# Under rule 2, which the image then says: over an image of rule 1, where there was none, and over the image that was opened.
+"$model" run --rule 2 --save ../new-2 < other > ../lines
+for there in old none; do
+    rm -f image
+    [ "$there" = none ] || cp ../old image
+    try --rule 2 --save image
+    [ "$status" = 0 ] || wrong "ended with $status: $(head -n 1 ../errors)"
+    printed
+    is_image ../new-2 image
+done
+"$model" run --from ../new-2 --save ../gone-on-2 < other > ../lines
+try --from image --save image
+[ "$status" = 0 ] || wrong "ended with $status: $(head -n 1 ../errors)"
+printed
+is_image ../gone-on-2 image
+"$model" run < other > ../lines
+rm image
+
 # A C1 or C2 line ends the input: what was judged before is saved.
 printf '\001\000\000\000\005\000\003\001' > ../one
 "$model" run --save ../one.image < ../one > /dev/null
@@ -184,23 +202,27 @@ fi
 rmdir disk
 
 # A standard output that can't be written: the image is saved all the same, with what was judged.
-unprinted() { # RUN
+unprinted() { # RUN RULE
     status=0
     case $how in
-        full) "$desk" --save image < "$1" > /dev/full 2> ../errors || status=$? ;;
-        unread) "$model" unread -- "$desk" --save image < "$1" 2> ../errors || status=$? ;;
+        full) "$desk" --rule "$2" --save image < "$1" > /dev/full 2> ../errors || status=$? ;;
+        unread) "$model" unread -- "$desk" --rule "$2" --save image < "$1" 2> ../errors || status=$? ;;
     esac
     cases=$((cases + 1))
-    named="desk --save image, standard output $how, $1"
+    named="desk --rule $2 --save image, standard output $how, $1"
     said 'desk: standard output: ?*'
     [ -e image ] || { wrong "saved no image"; return 0; }
     judged=$("$model" judged image < "$1") || wrong "the image is of no requests"
+    case $(od -An -v -tx1 -j5 -N1 image) in *46*) says=2 ;; *) says=1 ;; esac
+    [ "$says" = "$2" ] || wrong "the image says rule $says"
     [ "$(ls -A)" = "$(printf 'image\nother\nrun\n')" ] || wrong "left other files: $(ls -A)"
     rm image
 }
 for how in full unread; do
-    unprinted ../one
-    unprinted other
+    for rule in 1 2; do
+        unprinted ../one "$rule"
+        unprinted other "$rule"
+    done
 done
 
 # Images that can't be read: nothing else happens, and the image to save stays.
@@ -217,7 +239,8 @@ done
 rmdir folder
 
 # Files that are no image, with the refusal that they get. 13,107 counters and one byte are 65,536 bytes, which end inside a body;
-# with one byte more the file is too long.
+# with one byte more the file is too long. F is the kind of the rule, which has no body.
+rules() { awk -v n="$1" 'BEGIN { for (i = 0; i < n; i++) printf "F" }'; }
 counters() { awk 'BEGIN { for (i = 0; i < 13107; i++) printf "@...." }'; }
 printf '' > empty
 printf 'hello\n' > text
@@ -226,6 +249,12 @@ counters > counters-65535
 { counters; printf '@'; } > counters-65536
 { counters; printf '@.'; } > counters-65537
 head -c 65537 /dev/zero > zeros-65537
+rules 65536 > rules-65536
+{ rules 65535; printf '@'; } > rules-65536-cut
+rules 65537 > rules-65537
+{ printf '@....'; rules 65531; } > counter-and-rules
+{ cat ../new-2; printf 'F'; } > twice
+{ cat ../new-2; printf '@'; } > cut
 { cat ../old; printf '\n'; } > longer
 { cat ../old; counters; } > much-longer
 head -c 1000000 /dev/zero > million
@@ -247,6 +276,12 @@ refused 15 counters-65535
 refused 14 counters-65536
 refused 15 counters-65537
 refused 15 zeros-65537
+refused 15 rules-65536
+refused 14 rules-65536-cut
+refused 15 rules-65537
+refused 15 counter-and-rules
+refused 15 twice
+refused 14 cut
 refused 15 longer
 refused 15 much-longer
 refused 15 million

@@ -1,5 +1,6 @@
 // The batch of document 01, and its cases as text: a case a line in, a line of what the batch left out.
 
+use crate::desk::Desk;
 use crate::request::{frame, Frame};
 use crate::rules::Checked;
 use std::io::{self, Write};
@@ -55,8 +56,8 @@ pub fn batch(desk: &mut Checked, requests: &[u8], answers: &mut [u8], place: u64
 /// A line of the input.
 pub struct Case {
     pub name: String,
-    /// The last number of a desk opened anew; None where the desk goes on.
-    pub last: Option<u32>,
+    /// The last number and the rule's number of a desk opened anew; None where the desk goes on.
+    pub opening: Option<(u32, u32)>,
     pub room: usize,
     pub place: u64,
     pub requests: Vec<u8>,
@@ -73,16 +74,16 @@ impl Case {
         if name.is_empty() {
             return Err("no name".into());
         }
-        let last = if last == "+" { None } else { Some(last.parse().map_err(|_| "LAST is no number")?) };
+        let opening = if last == "+" { None } else { Some(opening(last)?) };
         let room = room.parse().ok().filter(|room| *room <= MOST_ROOM).ok_or("ROOM is not 0..4096")?;
         let place = place.parse().map_err(|_| "PLACE is no number")?;
-        Ok(Case { name: name.into(), last, room, place, requests: bytes(hex)? })
+        Ok(Case { name: name.into(), opening, room, place, requests: bytes(hex)? })
     }
 
     /// Plays the case on the desk that the case before left, and leaves its own there.
     pub fn play(&self, desk: &mut Option<Checked>) -> Result<(Done, Vec<u8>), String> {
-        if let Some(last) = self.last {
-            if let Some(earlier) = desk.replace(Checked::open(last)) {
+        if let Some((last, rule)) = self.opening {
+            if let Some(earlier) = desk.replace(Checked::of(Desk::open_under(last, rule))) {
                 earlier.replay_all()?;
             }
         }
@@ -91,6 +92,12 @@ impl Case {
         let done = batch(desk, &self.requests, &mut answers, self.place)?;
         Ok((done, answers))
     }
+}
+
+/// `N` is rule 1, `N/R` the rule with that number.
+fn opening(word: &str) -> Result<(u32, u32), String> {
+    let (last, rule) = word.split_once('/').unwrap_or((word, "1"));
+    Ok((last.parse().map_err(|_| "LAST is no number")?, rule.parse().map_err(|_| "the rule in LAST is no number")?))
 }
 
 pub fn bytes(hex: &str) -> Result<Vec<u8>, String> {

@@ -1,7 +1,9 @@
 // The generator of cases for the batch: generated runs cut into pieces, with rooms and places at and around their bounds.
 
 use crate::batch::{hex, Case, Done, CUT, UNKNOWN};
-use crate::generate::{generate, unknown_kind, Chance};
+use crate::desk::{Desk, STAFF};
+use crate::generate::{going_on, unknown_kind, Chance};
+use crate::request::Request::*;
 use crate::request::{frame, Frame};
 use crate::rules::Checked;
 
@@ -24,12 +26,16 @@ pub fn batches(seed: u64, count: usize) -> Result<String, String> {
     let single = chance.below(3) == 0;
     let anew = if single { 0 } else { 25 };
     let mut writer = Writer { chance, anew, desk: None, text: format!("# seed {seed}\n"), cases: 0 };
+    // First of all each opening once with Imports that show its rule.
+    for rule in [1, 2, writer.no_rule()] {
+        writer.rule_shows(rule)?;
+    }
     let mut left = count;
     while left > 0 {
         let most = if single { left } else { left.min(20 + writer.chance.below(300)) };
-        let opened = writer.opening();
-        let run = generate(writer.chance.next(), most, opened, false);
-        if !writer.cut(run, opened)? {
+        let opening = (writer.last(), writer.rule());
+        let run = going_on(writer.chance.next(), most, Desk::open_under(opening.0, opening.1), false);
+        if !writer.cut(run, opening)? {
             break;
         }
         // A run that ends in an unknown kind or a cut body has one that no desk counts.
@@ -40,7 +46,7 @@ pub fn batches(seed: u64, count: usize) -> Result<String, String> {
 }
 
 impl Writer {
-    fn opening(&mut self) -> u32 {
+    fn last(&mut self) -> u32 {
         match self.chance.below(10) {
             0..=4 => 0,
             5..=6 => self.chance.next() as u32,
@@ -48,9 +54,43 @@ impl Writer {
         }
     }
 
+    /// The number of a rule; some are no rule's, and the desk is then the empty one.
+    fn rule(&mut self) -> u32 {
+        match self.chance.below(100) {
+            0..=42 => 1,
+            43..=92 => 2,
+            _ => self.no_rule(),
+        }
+    }
+
+    fn no_rule(&mut self) -> u32 {
+        [0, 3, 7, u32::MAX][self.chance.below(4)]
+    }
+
+    /// A case on a desk opened under that number: a draft of a room goes into house scripts that are equal, higher, have more categories, fewer, and are lower.
+    fn rule_shows(&mut self, rule: u32) -> Result<(), String> {
+        let last = self.chance.below(1000) as u32;
+        let v = Desk::open_under(last, rule).last + 1;
+        let mut requests = vec![
+            Enrol { u: 0, new: 0, sort: STAFF, level: 7, c: 0xFFFF, admin: 1 },
+            Establish { u: 0, room: 1 },
+            JoinStaff { u: 0, w: 0, room: 1 },
+            OpenRoom { u: 0, s: 0, room: 1, level: 3, c: 0x0003 },
+            Create { s: 0, script: 0 },
+        ];
+        let labels = [(3, 0x0003), (4, 0x0003), (3, 0x0007), (4, 0x0001), (2, 0x0007)];
+        for (id, (level, c)) in (1..).zip(labels) {
+            requests.extend([OpenHouse { u: 0, s: id, level, c }, Create { s: id, script: id }]);
+            requests.push(Import { u: 0, script1: 0, v, script2: id, room: 1 });
+        }
+        let bytes: Vec<u8> = requests.iter().flat_map(|request| request.bytes()).collect();
+        self.case_at(Some((last, rule)), &bytes, 5 * requests.len(), 0)?;
+        Ok(())
+    }
+
     /// Cases that give the run to a desk opened anew; false once the text is long enough.
-    fn cut(&mut self, mut run: Vec<u8>, opened: u32) -> Result<bool, String> {
-        let mut last = Some(opened);
+    fn cut(&mut self, mut run: Vec<u8>, opening: (u32, u32)) -> Result<bool, String> {
+        let mut opening = Some(opening);
         let mut at = 0;
         while at < run.len() {
             if self.chance.percent(8) {
@@ -59,7 +99,7 @@ impl Writer {
                 run.insert(end, unknown_kind(&mut self.chance));
             }
             let length = self.piece(&run[at..]);
-            let Some(done) = self.case(last.take(), &run[at..at + length])? else { return Ok(false) };
+            let Some(done) = self.case(opening.take(), &run[at..at + length])? else { return Ok(false) };
             // What was not used comes again, at the front of the next case.
             at += done.used;
             match done.stop {
@@ -108,23 +148,31 @@ impl Writer {
     }
 
     /// Writes a case and plays it; None where the text would grow too long.
-    fn case(&mut self, last: Option<u32>, requests: &[u8]) -> Result<Option<Done>, String> {
+    fn case(&mut self, opening: Option<(u32, u32)>, requests: &[u8]) -> Result<Option<Done>, String> {
         let room = self.room();
         let place = self.place(room);
+        self.case_at(opening, requests, room, place)
+    }
+
+    fn case_at(&mut self, opening: Option<(u32, u32)>, requests: &[u8], room: usize, place: u64) -> Result<Option<Done>, String> {
         let name = format!("c{}", self.cases + 1);
-        let line = self.line(&name, last, room, place, requests);
+        let line = self.line(&name, opening, room, place, requests);
         if self.text.len() + line.len() > MOST_TEXT {
             return Ok(None);
         }
         self.text += &line;
         self.cases += 1;
-        let case = Case { name, last, room, place, requests: requests.to_vec() };
+        let case = Case { name, opening, room, place, requests: requests.to_vec() };
         Ok(Some(case.play(&mut self.desk)?.0))
     }
 
     /// The case as text, in one of the ways that the form allows.
-    fn line(&mut self, name: &str, last: Option<u32>, room: usize, place: u64, requests: &[u8]) -> String {
-        let last = last.map_or("+".into(), |last| last.to_string());
+    fn line(&mut self, name: &str, opening: Option<(u32, u32)>, room: usize, place: u64, requests: &[u8]) -> String {
+        let last = match opening {
+            None => "+".into(),
+            Some((last, 1)) if self.chance.percent(70) => last.to_string(),
+            Some((last, rule)) => format!("{last}/{rule}"),
+        };
         let mut digits = hex(requests);
         if self.chance.below(4) == 0 {
             digits = digits.to_uppercase();

@@ -1,5 +1,6 @@
 // The conditions of the reasons' table: for each the refusal, the record, the values and the kinds of request that ask it.
 
+use crate::desk::Rule;
 use crate::reasons::Failed;
 
 /// The wanted value of a reason, where the condition alone fixes it.
@@ -20,9 +21,15 @@ pub struct Condition {
     pub record: u8,
     pub wanted: Wanted,
     pub kinds: &'static [u8],
+    /// The rule under which it is asked, where it is not asked under both.
+    pub rule: Option<Rule>,
 }
 
 impl Condition {
+    pub fn asked_under(&self, rule: Rule) -> bool {
+        self.rule.map_or(true, |own| own == rule)
+    }
+
     /// Whether a request of the kind, refused with n, was refused by this condition with its reason.
     pub fn met(&self, kind: u8, n: u8, failed: &Failed) -> bool {
         let wanted = match self.wanted {
@@ -35,7 +42,12 @@ impl Condition {
 }
 
 const fn of(n: u8, clause: &'static str, record: u8, wanted: Wanted, kinds: &'static [u8]) -> Condition {
-    Condition { n, clause, record, wanted, kinds }
+    Condition { n, clause, record, wanted, kinds, rule: None }
+}
+
+/// Of Import, under one rule alone.
+const fn import(rule: Rule, n: u8, clause: &'static str) -> Condition {
+    Condition { n, clause, record: 0x43, wanted: Open, kinds: &[9], rule: Some(rule) }
 }
 
 const USERS: &[u8] = &[1, 2, 3, 4, 5, 6, 7, 8, 9, 0x0A, 0x0B, 0x10, 0x11, 0x12, 0x16, 0x20];
@@ -44,7 +56,7 @@ const ROOMS: &[u8] = &[3, 4, 5, 6, 7, 8, 9, 0x0A, 0x0B, 0x10];
 const DRAFTS: &[u8] = &[7, 8, 9, 0x0A, 0x13, 0x14];
 const ISSUING: &[u8] = &[9, 0x14, 0x15];
 
-pub const CONDITIONS: [Condition; 62] = [
+pub const CONDITIONS: [Condition; 64] = [
     of(3, "u over 63", 0, Is(63), USERS),
     of(3, "new over 63", 0, Is(63), &[1]),
     of(3, "w over 63", 0, Is(63), PAIRS),
@@ -99,11 +111,13 @@ pub const CONDITIONS: [Condition; 62] = [
     of(9, "level not covered", 0x41, Open, &[0x10, 0x11, 0x12]),
     of(9, "level not covered", 0x44, Open, &[0x13]),
     of(9, "levels differ", 0x44, Open, &[0x14]),
-    of(9, "levels differ", 0x43, Open, &[9]),
+    import(Rule::One, 9, "levels differ"),
+    import(Rule::Two, 9, "level not covered"),
     of(16, "categories not covered", 0x41, Open, &[0x10, 0x11, 0x12]),
     of(16, "categories not covered", 0x44, Open, &[0x13]),
     of(16, "categories differ", 0x44, Open, &[0x14]),
-    of(16, "categories differ", 0x43, Open, &[9]),
+    import(Rule::One, 16, "categories differ"),
+    import(Rule::Two, 16, "categories not covered"),
     of(10, "256 live drafts", 0, Is(256), ISSUING),
     of(11, "last number issued", 0, Is(4_294_967_295), ISSUING),
     of(12, "kept count 0", 0, Is(0), &[0x20]),

@@ -1,9 +1,11 @@
-// What a set of runs reached: pairs of kind and answer, conditions with their reasons, refusals that apply together, and events worth a name.
+// What a set of runs reached: pairs of kind and answer, conditions with their reasons, refusals that apply together, the two labels at Import, and events
+// worth a name.
 
 use crate::batch::bytes;
-use crate::conditions::CONDITIONS;
+use crate::conditions::{Condition, CONDITIONS};
 use crate::desk::*;
 use crate::generate::generate;
+use crate::imports::{self, standing, Standing, STANDINGS};
 use crate::reasons::Failed;
 use crate::request::{frame, Frame, Request, KINDS};
 use std::collections::{BTreeMap, BTreeSet};
@@ -69,7 +71,9 @@ pub struct Coverage {
     conditions: BTreeMap<(usize, u8), usize>,
     /// By the kind of request and all the refusals that applied.
     together: BTreeMap<(u8, Vec<u8>), usize>,
-    /// Reasons that are in no row of the table.
+    /// By the rule, how the labels stand at an Import that no refusal before 9 applies to, and whether 256 drafts live.
+    imports: BTreeMap<(Rule, Standing, bool), usize>,
+    /// Reasons that are in no row of the table, and answers to an Import that are not the documents'.
     strays: BTreeSet<String>,
     events: BTreeMap<&'static str, usize>,
     taken_back: BTreeMap<u8, usize>,
@@ -83,8 +87,8 @@ impl Coverage {
         *self.events.entry(name).or_default() += 1;
     }
 
-    fn refused(&mut self, kind: u8, n: u8, failed: &Failed) {
-        match CONDITIONS.iter().position(|c| c.met(kind, n, failed)) {
+    fn refused(&mut self, rule: Rule, kind: u8, n: u8, failed: &Failed) {
+        match CONDITIONS.iter().position(|c| c.asked_under(rule) && c.met(kind, n, failed)) {
             Some(row) => *self.conditions.entry((row, kind)).or_default() += 1,
             None => {
                 self.strays.insert(format!("{kind:02X}: {n} {failed:?} is in no row of the table"));
@@ -92,10 +96,22 @@ impl Coverage {
         }
     }
 
-    /// Prints how often each kind met its conditions under the numbers asked for; what was never met, and what no row has.
-    fn unmet(&self, asked: impl Fn(u8) -> bool) -> Vec<String> {
+    /// An Import that no refusal before 9 applies to, on a desk with a number left.
+    fn imported(&mut self, rule: Rule, before: &House, script1: u8, script2: u8, answer: Answer) {
+        let label = |script: u8| before.scripts[&script].label();
+        let (standing, full) = (standing(label(script2), label(script1)), before.drafts.len() == MOST_DRAFTS);
+        *self.imports.entry((rule, standing, full)).or_default() += 1;
+        if answer.byte() != imports::answer(rule, standing, full) {
+            self.strays.insert(format!("{:02X} to an Import under {rule:?}, {}", answer.byte(), imports::words(standing)));
+        }
+    }
+
+    /// Prints how often each kind met its conditions under the numbers asked for; what was never met, and what no row has. Of a condition that is asked
+    /// under one rule alone, only where the runs went under it.
+    fn unmet(&self, rules: &[Rule], asked: impl Fn(u8) -> bool) -> Vec<String> {
         let mut missing: Vec<String> = self.strays.iter().cloned().collect();
-        for (row, condition) in CONDITIONS.iter().enumerate().filter(|(_, c)| asked(c.n)) {
+        let here = |c: &Condition| asked(c.n) && rules.iter().any(|rule| c.asked_under(*rule));
+        for (row, condition) in CONDITIONS.iter().enumerate().filter(|(_, c)| here(c)) {
             let name = format!("{} {:02X} {}", condition.n, condition.record, condition.clause);
             let mut line = format!("{name}:");
             for kind in condition.kinds {
@@ -126,8 +142,25 @@ impl Coverage {
         missing
     }
 
-    fn run(&mut self, bytes: &[u8], opened: u32) {
-        let mut desk = Desk::open(opened);
+    /// The same of the labels at Import; each must be met with room for a draft, and where it is said without room too.
+    fn never_imported(&self, rules: &[Rule], without_room: bool) -> Vec<String> {
+        let mut missing = Vec::new();
+        for rule in rules {
+            for (standing, full) in STANDINGS.iter().flat_map(|standing| [(*standing, false), (*standing, true)]) {
+                let times = self.imports.get(&(*rule, standing, full)).copied().unwrap_or(0);
+                let room = if full { ", 256 live drafts" } else { "" };
+                let name = format!("Import under rule {}, {}{room}", rule.number(), imports::words(standing));
+                println!("{name}: {:02X} {times}", imports::answer(*rule, standing, full));
+                if times == 0 && (without_room || !full) {
+                    missing.push(name);
+                }
+            }
+        }
+        missing
+    }
+
+    fn run(&mut self, bytes: &[u8], opened: u32, rule: Rule) {
+        let mut desk = Desk::open(opened, rule);
         let mut at = 0;
         let mut in_a_row = 0;
         let mut was_full = false;
@@ -151,8 +184,13 @@ impl Coverage {
             self.requests += 1;
             self.granted += answer.granted() as usize;
             *self.pairs.entry((request.kind(), answer.byte())).or_default() += 1;
+            match (request, answer) {
+                (_, Answer::Refused(3..=8 | 11, _)) => {}
+                (Request::Import { script1, script2, .. }, _) => self.imported(rule, &before, script1, script2, answer),
+                _ => {}
+            }
             if let Answer::Refused(n, failed) = answer {
-                self.refused(request.kind(), n, &failed);
+                self.refused(rule, request.kind(), n, &failed);
                 if !(3..=8).contains(&n) {
                     let refusals = desk.refusals(&request).map(|(n, _)| n).collect();
                     *self.together.entry((request.kind(), refusals)).or_default() += 1;
@@ -241,18 +279,35 @@ impl Coverage {
     }
 }
 
-/// Prints what the seeds reach; true when nothing is missing and at least half is granted.
+/// Prints what the seeds reach, under the rule of each; true when nothing is missing under either and at least half is granted.
 pub fn report(seeds: &[u64], count: usize) -> bool {
+    let mut complete = true;
+    let mut said = Vec::new();
+    for rule in Rule::BOTH {
+        println!("rule {}:", rule.number());
+        let seeds: Vec<u64> = seeds.iter().copied().filter(|seed| Rule::of_seed(*seed) == rule).collect();
+        let (all, missing) = reached(&seeds, count, rule);
+        complete &= self::complete(&missing);
+        said.push(format!("rule {}: {} requests, {} granted, {} conditions", rule.number(), all.requests, all.granted, all.conditions.len()));
+    }
+    println!("{}", said.join("; "));
+    complete
+}
+
+/// How often, at least, an Import gets each of its answers: one for so many runs.
+const RUNS_FOR_AN_ANSWER: usize = 4;
+
+/// What runs under one rule reach, and what is missing.
+fn reached(seeds: &[u64], count: usize, rule: Rule) -> (Coverage, Vec<String>) {
     let mut all = Coverage::default();
     for seed in seeds {
-        all.run(&generate(*seed, count, 0, false), 0);
+        all.run(&generate(*seed, count, 0, rule, false), 0, rule);
     }
-    let (requests, granted) = (all.requests, all.granted);
-    // Refusal 11 needs an opening near the top; the program opens with 0, so these runs are the model's own.
+    // Refusal 11 needs an opening near the top; the compared runs open with 0, so these are the model's own.
     let mut near = Coverage::default();
     for seed in seeds.iter().take(40) {
         let opened = u32::MAX - (seed % 80) as u32;
-        near.run(&generate(*seed, count, opened, false), opened);
+        near.run(&generate(*seed, count, opened, rule, false), opened, rule);
     }
     let mut missing = Vec::new();
     for kind in KINDS {
@@ -261,8 +316,10 @@ pub fn report(seeds: &[u64], count: usize) -> bool {
             let from = if byte == 0xCB { &near } else { &all };
             let times = from.pairs.get(&(kind, byte)).copied().unwrap_or(0);
             line += &format!(" {byte:02X}:{times}");
-            if times == 0 {
-                missing.push(format!("{kind:02X} {byte:02X}"));
+            let common = kind == 0x09 && matches!(byte, 0x81 | 0xC9 | 0xD0 | 0xCA);
+            let least = if common { 1.max(seeds.len() / RUNS_FOR_AN_ANSWER) } else { 1 };
+            if times < least {
+                missing.push(format!("{kind:02X} {byte:02X}, {least} times"));
             }
         }
         println!("{line}");
@@ -280,8 +337,10 @@ pub fn report(seeds: &[u64], count: usize) -> bool {
         }
     }
     // Refusal 11 is met near the top alone.
-    missing.extend(all.unmet(|n| n != 11));
-    missing.extend(near.unmet(|n| n == 11));
+    missing.extend(all.unmet(&[rule], |n| n != 11));
+    missing.extend(near.unmet(&[rule], |n| n == 11));
+    // Few runs fill a desk: with 256 live drafts the answers are asked for, not each pair of labels.
+    missing.extend(all.never_imported(&[rule], false));
     for event in EVENTS {
         let times = all.events.get(event).copied().unwrap_or(0);
         println!("{times} {event}");
@@ -294,22 +353,30 @@ pub fn report(seeds: &[u64], count: usize) -> bool {
             missing.push(format!("{kind:02X} taken back"));
         }
     }
-    println!("{requests} requests, {granted} granted, {} conditions", all.conditions.len());
-    if 2 * granted < requests {
+    if 2 * all.granted < all.requests {
         missing.push("half of the requests granted".into());
     }
-    complete(&missing)
+    (all, missing)
 }
 
-/// Whether stored runs, each the text of a file of commented hex, meet every condition that a desk opened with 0 can.
-pub fn stored(texts: &[String]) -> Result<bool, String> {
+/// The rule under which a stored run goes, by its file's name.
+fn rule_of(file: &str) -> Rule {
+    let name = file.rsplit('/').next().unwrap_or(file);
+    if name.starts_with("rule-2-") { Rule::Two } else { Rule::One }
+}
+
+/// Whether stored runs, each a file's name and its text of commented hex, meet every condition that a desk opened with 0 can, and at Import all that the
+/// labels can be under either rule.
+pub fn stored(files: &[(String, String)]) -> Result<bool, String> {
     let mut all = Coverage::default();
-    for text in texts {
+    for (name, text) in files {
         let hex: String = text.lines().map(|line| line.split('#').next().unwrap_or("")).collect();
-        all.run(&bytes(&hex.replace(' ', ""))?, 0);
+        all.run(&bytes(&hex.replace(' ', ""))?, 0, rule_of(name));
     }
-    let missing = all.unmet(|n| n != 11);
-    println!("{} runs, {} requests, {} conditions", texts.len(), all.requests, all.conditions.len());
+    let mut missing = all.unmet(&Rule::BOTH, |n| n != 11);
+    missing.extend(all.never_imported(&Rule::BOTH, true));
+    let second = files.iter().filter(|(name, _)| rule_of(name) == Rule::Two).count();
+    println!("{} runs, {second} of them under rule 2, {} requests, {} conditions", files.len(), all.requests, all.conditions.len());
     Ok(complete(&missing))
 }
 

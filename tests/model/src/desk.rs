@@ -17,6 +17,37 @@ pub const MOST_KEPT: usize = 32;
 /// A level and categories; the place is the record's own.
 pub type Label = (u8, u16);
 
+/// What Import asks of the two labels. A desk is opened under one rule for its whole life.
+#[derive(Clone, Copy, PartialEq, Eq, PartialOrd, Ord, Debug, Default)]
+pub enum Rule {
+    /// Equal labels, as document 004 has it.
+    #[default]
+    One,
+    /// The house script's covers the room script's, as document 001 has it.
+    Two,
+}
+
+impl Rule {
+    pub const BOTH: [Rule; 2] = [Rule::One, Rule::Two];
+
+    /// None for another number, which is refusal 3 at opening.
+    pub fn of(number: u32) -> Option<Rule> {
+        Rule::BOTH.into_iter().find(|rule| rule.number() == number)
+    }
+
+    pub fn number(self) -> u32 {
+        match self {
+            Rule::One => 1,
+            Rule::Two => 2,
+        }
+    }
+
+    /// The rule of a generated run: two seeds under rule 1, two under rule 2, so that odd and even ones meet both.
+    pub fn of_seed(seed: u64) -> Rule {
+        if seed / 2 % 2 == 0 { Rule::One } else { Rule::Two }
+    }
+}
+
 #[derive(Clone, PartialEq, Eq, Debug)]
 pub struct User {
     pub sort: u8,
@@ -131,6 +162,7 @@ pub struct Desk {
     pub house: House,
     /// The last draft number issued.
     pub last: u32,
+    pub rule: Rule,
     /// Every change not taken back, oldest first: all of them, not the last 32.
     pub changes: Vec<Change>,
     pub kept: usize,
@@ -273,13 +305,28 @@ impl House {
 }
 
 impl Desk {
-    pub fn open(last: u32) -> Desk {
-        Desk::of(House::default(), last)
+    pub fn open(last: u32, rule: Rule) -> Desk {
+        Desk::of(House::default(), last, rule)
+    }
+
+    /// Opened under the rule with that number; another number is refused, and gives the empty desk with last number 0 and rule 1.
+    pub fn open_under(last: u32, number: u32) -> Desk {
+        match Rule::of(number) {
+            Some(rule) => Desk::open(last, rule),
+            None => Desk::open(0, Rule::One),
+        }
     }
 
     /// A desk with these records and no kept change.
-    pub fn of(house: House, last: u32) -> Desk {
-        Desk { base: house.clone(), house, last, changes: Vec::new(), kept: 0 }
+    pub fn of(house: House, last: u32, rule: Rule) -> Desk {
+        Desk { base: house.clone(), house, last, rule, changes: Vec::new(), kept: 0 }
+    }
+
+    /// Whether of this desk and the same under the other rule one grants the request and one refuses it.
+    pub fn asks_its_rule(&self, request: &Request) -> bool {
+        let rule = if self.rule == Rule::One { Rule::Two } else { Rule::One };
+        let other = Desk { rule, ..self.clone() };
+        self.refusal(request).is_none() != other.refusal(request).is_none()
     }
 
     /// The changes that are kept no longer, and those that are.

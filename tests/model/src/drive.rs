@@ -1,5 +1,6 @@
 // Runs the program under test, given as the words of a command, and holds what it did against what it should do.
 
+use crate::desk::Rule;
 use std::ffi::OsStr;
 use std::fs;
 use std::io;
@@ -31,8 +32,8 @@ pub struct Wanted<'a> {
 /// How a desk is opened.
 #[derive(Clone, Copy)]
 pub enum Opening<'a> {
-    Plain,
-    Last(u32),
+    /// With the last number and the rule, where they are said.
+    New(Option<u32>, Option<Rule>),
     From(&'a [u8]),
 }
 
@@ -67,12 +68,14 @@ impl Program {
         }
         fs::write(&input, requests)?;
         let mut words: Vec<&OsStr> = Vec::new();
-        let number;
+        let (number, rule);
         match opening {
-            Opening::Plain => {}
-            Opening::Last(last) => {
-                number = last.to_string();
-                words.extend([OsStr::new("--last"), number.as_ref()]);
+            Opening::New(said_last, said_rule) => {
+                number = said_last.map(|last| last.to_string());
+                rule = said_rule.map(|rule| rule.number().to_string());
+                for (word, value) in [("--last", &number), ("--rule", &rule)] {
+                    words.extend(value.iter().flat_map(|value| [OsStr::new(word), value.as_ref()]));
+                }
             }
             Opening::From(bytes) => {
                 fs::write(&from, bytes)?;

@@ -1,6 +1,7 @@
 // The generator of runs: it plays a desk as it goes, so that most requests are granted.
 
 use crate::desk::*;
+use crate::imports::{standing, Standing, STANDINGS};
 use crate::request::Request::{self, *};
 use crate::request::{body_length, frame, Frame, KINDS};
 
@@ -44,10 +45,14 @@ const ROOMS: Weights = [2, 8, 5, 1, 4, 1, 6, 2, 3, 3, 6, 6, 3, 3, 4, 5, 6, 2, 3]
 const TAKING: Weights = [3, 2, 4, 3, 4, 3, 4, 3, 3, 3, 2, 5, 4, 4, 3, 5, 5, 4, 16];
 const DRAFTS: Weights = [1, 0, 2, 0, 1, 0, 5, 1, 9, 3, 0, 3, 3, 2, 3, 60, 9, 1, 1];
 const STYLES: [Weights; 5] = [MIXED, PEOPLE, ROOMS, TAKING, DRAFTS];
+/// Of runs with many Imports, more of which shall meet a full desk.
+const IMPORTING: [Weights; 5] = [MIXED, DRAFTS, ROOMS, TAKING, DRAFTS];
 
 struct Player {
     chance: Chance,
     desk: Desk,
+    /// Whether the run has many Imports, with labels that stand to each other in every way.
+    importing: bool,
     /// A few labels, so that equal ones happen, and ones that differ in one part.
     labels: Vec<Label>,
 }
@@ -56,22 +61,24 @@ struct Player {
 const SETTING_UP: usize = 90;
 
 /// A run of `count` requests as bytes; some end in an unknown kind or a cut body, unless the run shall be whole.
-pub fn generate(seed: u64, count: usize, opened: u32, whole: bool) -> Vec<u8> {
-    going_on(seed, count, Desk::open(opened), whole)
+pub fn generate(seed: u64, count: usize, opened: u32, rule: Rule, whole: bool) -> Vec<u8> {
+    going_on(seed, count, Desk::open(opened, rule), whole)
 }
 
 /// Such a run for a desk that was opened otherwise.
 pub fn going_on(seed: u64, count: usize, desk: Desk, whole: bool) -> Vec<u8> {
     let mut chance = Chance::new(seed);
-    let style = STYLES[chance.below(STYLES.len())];
-    let labels = labels(&mut chance);
+    let drawn = chance.below(STYLES.len() + IMPORTING.len());
+    let importing = drawn < IMPORTING.len();
+    let style = if importing { IMPORTING[drawn] } else { STYLES[drawn - IMPORTING.len()] };
+    let labels = if importing { near_labels(&mut chance) } else { labels(&mut chance) };
     let ending = chance.below(8);
     let streaks = chance.below(4);
     let stray = if chance.percent(40) { 1 + chance.below(6) } else { 0 };
     // Some runs take an early desk back to the empty one.
     let emptied = if chance.percent(25) { Some(stray + 1 + chance.below(24)) } else { None };
     let setup = if desk.house.users.is_empty() { SETTING_UP } else { 0 };
-    let mut player = Player { chance, desk, labels };
+    let mut player = Player { chance, desk, importing, labels };
     let mut out = Vec::new();
     let mut in_a_row = 0;
     for ordinal in 0..count {
@@ -114,6 +121,14 @@ fn labels(chance: &mut Chance) -> Vec<Label> {
     vec![(7, 0xFFFF), (0, 0), (level, c), (level, other_c), (other_level, c)]
 }
 
+/// Two levels side by side, with categories that are the same, more, fewer and others.
+fn near_labels(chance: &mut Chance) -> Vec<Label> {
+    let level = chance.below(7) as u8;
+    let (a, b, c) = [(0x0001, 0x0010, 0x8000), (0x8000, 0x0001, 0x00F0), (0x0100, 0x0080, 0x0002)][chance.below(3)];
+    let labels = [a, a | b, a | c, a | b | c].into_iter().flat_map(|c| [(level, c), (level + 1, c)]);
+    std::iter::once((7, 0xFFFF)).chain(labels).collect()
+}
+
 impl Player {
     fn next(&mut self, weights: &Weights) -> Request {
         let spent = self.desk.house.drafts.len() == MOST_DRAFTS || self.desk.last == u32::MAX;
@@ -125,7 +140,16 @@ impl Player {
                 return request;
             }
         }
-        if self.chance.percent(35) {
+        if self.importing && self.chance.percent(if spent { 40 } else { 12 }) {
+            // Not every pair of labels is there.
+            for _ in 0..3 {
+                if let Some(request) = self.any_import() {
+                    return request;
+                }
+            }
+        }
+        // Fewer where many Imports are, so that the desk is full sooner.
+        if self.chance.percent(if self.importing { 20 } else { 35 }) {
             return self.wrong();
         }
         for _ in 0..30 {
@@ -279,7 +303,10 @@ impl Player {
                 let (script, v) = self.draft(|d, _| d.places.contains(room))?;
                 Remove { u, script, v, room }
             }
-            0x09 => return self.import(|one, other| one == other),
+            0x09 => {
+                let rule = self.desk.rule;
+                return self.import(|room, house| wrong_parts(rule, house, room) == (false, false));
+            }
             0x0A => {
                 let (room, u) = self.led_room()?;
                 let (script, v) = self.draft(|d, s| s.origin == HOUSE && d.places.contains(room))?;
@@ -340,6 +367,23 @@ impl Player {
         })
     }
 
+    /// An Import in order but for the two labels, which stand to each other in one of the ways there are.
+    fn any_import(&mut self) -> Option<Request> {
+        let wanted: Standing = self.chance.one_of(&STANDINGS)?;
+        let scripts = &self.desk.house.scripts;
+        let of_house = |(_, script): &(&u8, &Script)| script.origin == HOUSE;
+        let mut pairs = Vec::new();
+        for (one, room) in scripts.iter().filter(|s| !of_house(s)) {
+            let fits = |(_, house): &(&u8, &Script)| standing(house.label(), room.label()) == wanted;
+            pairs.extend(scripts.iter().filter(of_house).filter(fits).map(|(two, _)| (*one, *two, room.origin)));
+        }
+        let (script1, script2, room) = self.chance.one_of(&pairs)?;
+        let u = self.user(|u| u.led.contains(room))?;
+        let drafts: Vec<u32> = self.desk.house.drafts.iter().filter(|(_, d)| d.script == script1).map(|(v, _)| *v).collect();
+        let v = self.chance.one_of(&drafts)?;
+        Some(Import { u, script1, v, script2, room })
+    }
+
     /// An Import in order, if the two labels are.
     fn import(&mut self, fits: impl Fn(Label, Label) -> bool) -> Option<Request> {
         let (room, u) = self.led_room()?;
@@ -358,11 +402,15 @@ impl Player {
         Some(Update { s, script, v })
     }
 
-    /// One of these with a wrong label: the level differs, the categories, or both.
+    /// One of these with a wrong label: the level is wrong, the categories, or both.
     fn other_label(&mut self) -> Option<Request> {
         let parts = self.chance.one_of(&[(true, false), (false, true), (true, true)])?;
-        let fits = |one: Label, other: Label| (one.0 != other.0, one.1 != other.1) == parts;
-        if self.chance.percent(65) { self.import(fits) } else { self.update(fits) }
+        let rule = self.desk.rule;
+        if self.chance.percent(65) {
+            self.import(|room, house| wrong_parts(rule, house, room) == parts)
+        } else {
+            self.update(|session, script| wrong_parts(Rule::One, session, script) == parts)
+        }
     }
 
     /// A request likely refused: one in order with a record or a byte changed, or any at all.
@@ -568,6 +616,14 @@ impl Player {
             let kept = 1 + self.chance.below(bytes.len() - 1);
             out.extend(&bytes[..kept]);
         }
+    }
+}
+
+/// Whether the level and the categories are wrong by the rule: equal under rule 1, covered by the first under rule 2.
+fn wrong_parts(rule: Rule, first: Label, second: Label) -> (bool, bool) {
+    match rule {
+        Rule::One => (first.0 != second.0, first.1 != second.1),
+        Rule::Two => (first.0 < second.0, second.1 & !first.1 != 0),
     }
 }
 

@@ -10,6 +10,8 @@ pub const ROOM: u8 = 0x42;
 pub const SCRIPT: u8 = 0x43;
 pub const SESSION: u8 = 0x44;
 pub const DRAFT: u8 = 0x45;
+/// Stands directly behind the counter where the rule is 2.
+pub const RULE: u8 = 0x46;
 
 /// Refusal 14: no bytes, or an end inside a body.
 pub const CUT: u8 = 14;
@@ -28,14 +30,19 @@ fn body_length(kind: u8) -> Option<usize> {
         SCRIPT => 5,
         SESSION => 7,
         DRAFT => 9,
+        RULE => 0,
         _ => return None,
     })
 }
 
 /// The desk's image: the kinds in their order, each ascending by id or number, as the tables are.
-pub fn write(h: &House, last: u32) -> Vec<u8> {
+pub fn write(desk: &Desk) -> Vec<u8> {
+    let h = &desk.house;
     let mut out = vec![COUNTER];
-    out.extend(last.to_be_bytes());
+    out.extend(desk.last.to_be_bytes());
+    if desk.rule == Rule::Two {
+        out.push(RULE);
+    }
     for (id, user) in &h.users {
         out.extend([USER, *id, user.sort, user.level]);
         out.extend(user.c.to_be_bytes());
@@ -73,12 +80,14 @@ pub struct Refused {
 }
 
 /// What the frames, the form and the bounds can fail by, besides the record rules.
-pub const FAULTS: [&str; 33] = [
+pub const FAULTS: [&str; 35] = [
     "no bytes",
     "an end inside a body",
     "an unknown kind",
     "the first record is not the counter",
     "a second counter",
+    "the rule not directly behind the counter",
+    "the rule twice",
     "kinds out of order",
     "users not ascending",
     "rooms not ascending",
@@ -123,15 +132,15 @@ fn test(holds: bool, number: u8, fault: &'static str) -> Result<(), Refused> {
     Err(Refused { number, wrong: vec![fault] })
 }
 
-/// The records of an image and its last number.
-pub fn read(bytes: &[u8]) -> Result<(House, u32), Refused> {
+/// The desk that an image opens as, with no kept change.
+pub fn read(bytes: &[u8]) -> Result<Desk, Refused> {
     let mut reader = Reader::default();
     for record in frames(bytes)? {
         reader.record(record)?;
     }
-    let Reader { house, last, .. } = reader;
+    let Reader { house, last, rule, .. } = reader;
     let wrong: Vec<&str> = rules::broken(rules::rules(&house, last)).collect();
-    if wrong.is_empty() { Ok((house, last)) } else { Err(Refused { number: NO_IMAGE, wrong }) }
+    if wrong.is_empty() { Ok(Desk::of(house, last, rule)) } else { Err(Refused { number: NO_IMAGE, wrong }) }
 }
 
 /// Walks the frames, from the first byte to the last, and asks nothing else of them.
@@ -191,7 +200,9 @@ fn with_house(set: u32) -> bool {
 struct Reader {
     house: House,
     last: u32,
-    /// The kind and the id or number of the record before.
+    /// Rule 1 until a record says otherwise.
+    rule: Rule,
+    /// The kind and the id or number of the record before; the rule has neither, and is not counted.
     before: Option<(u8, u32)>,
 }
 
@@ -205,7 +216,8 @@ impl Reader {
             ROOM => self.room(&mut body)?,
             SCRIPT => self.script(&mut body)?,
             SESSION => self.session(&mut body)?,
-            _ => self.draft(&mut body)?,
+            DRAFT => self.draft(&mut body)?,
+            _ => self.rule()?,
         }
         assert!(body.0.is_empty(), "the body was not read to its end");
         Ok(())
@@ -224,6 +236,14 @@ impl Reader {
     fn counter(&mut self, body: &mut Body) -> Result<(), Refused> {
         self.last = body.four();
         self.follows(COUNTER, 0, "a second counter")
+    }
+
+    fn rule(&mut self) -> Result<(), Refused> {
+        within(self.before.is_some(), "the first record is not the counter")?;
+        within(self.rule == Rule::One, "the rule twice")?;
+        within(self.before == Some((COUNTER, 0)), "the rule not directly behind the counter")?;
+        self.rule = Rule::Two;
+        Ok(())
     }
 
     fn user(&mut self, body: &mut Body) -> Result<(), Refused> {

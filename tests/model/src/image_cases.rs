@@ -1,6 +1,6 @@
 // The stored images of tests/images: a small house in the image's form, and each case what is changed in it. The answers are said here, by hand.
 
-use crate::whole_images::{self, Line, ACCEPTED, CUT, LEAD, UNKNOWN};
+use crate::whole_images::{self, Line, ACCEPTED, CUT, FIRST, LEAD, UNKNOWN};
 use Edit::*;
 
 enum Edit {
@@ -37,8 +37,9 @@ const HOUSE: [(&str, &str, &str); 17] = [
 /// A file's name, what must come of it, and the changes.
 type Case = (&'static str, &'static str, Vec<Edit>);
 
-const FIRST: &str = "15: the first record is not the counter";
 const SECOND: &str = "15: a second counter";
+const RULE: &str = "15: the rule not directly behind the counter";
+const RULE_TWICE: &str = "15: the rule twice";
 const KINDS: &str = "15: kinds out of order";
 const NUMBERS: &str = "15: draft numbers from 1 to the counter";
 const OUTSIDERS: &str = "15: outsiders with zero labels, in no room";
@@ -68,12 +69,12 @@ fn form() -> Vec<Case> {
         ("cut-without-counter", CUT, vec![Without("counter"), End("draft 5", "45 00", "the walk comes first, and ends inside a body")]),
         ("cut-before-unknown-kind", CUT, vec![End("draft 5", "45 000000 46 FF", "FF would be no kind, but stands inside the body that is cut")]),
         ("unknown-kind-before-cut", UNKNOWN, vec![
-            After("draft 4", "46", "no kind today"),
+            After("draft 4", "48", "no kind"),
             End("draft 5", "45 00", "a body cut behind it"),
         ]),
         ("unknown-kind-39-before-cut", UNKNOWN, vec![After("user 3", "39", "no kind"), End("draft 5", "45", "a body cut behind it")]),
         ("unknown-kind-first", UNKNOWN, vec![Set("counter", "3F 00000005", "no kind")]),
-        ("unknown-kind-between", UNKNOWN, vec![After("room 2", "46", "no kind today")]),
+        ("unknown-kind-between", UNKNOWN, vec![After("room 2", "48", "no kind")]),
         ("unknown-kind-last", UNKNOWN, vec![After("draft 5", "00", "no kind")]),
         ("unknown-kind-47", UNKNOWN, vec![Set("draft 5", "47 00000005 01 00000002 01 00000004", "no kind today")]),
         ("line-end-behind", UNKNOWN, vec![After("draft 5", "0A", "a line end is no kind")]),
@@ -133,6 +134,61 @@ fn form() -> Vec<Case> {
         ]),
         ("draft-twice", "15: drafts not ascending", vec![After("draft 5", "45 00000005 01 00000002", "draft 5 once more")]),
         ("draft-twice-otherwise", "15: drafts not ascending", vec![After("draft 2", "45 00000002 00 00000001", "draft 2 at other places")]),
+    ]
+}
+
+/// The record of rule 2, in its place and in every other. What is put behind the same record last stands first.
+fn rules_of_import() -> Vec<Case> {
+    let (rule, again) = (|| After("counter", "46", "rule 2"), || After("counter", "46", "once more"));
+    let cut = || End("draft 5", "45 00", "but the walk comes first, and ends inside a body");
+    vec![
+        ("rule-2", ACCEPTED, vec![rule()]),
+        ("rule-2-twice", RULE_TWICE, vec![again(), rule()]),
+        ("rule-2-three-times", RULE_TWICE, vec![again(), again(), rule()]),
+        ("rule-2-and-behind-a-user", RULE_TWICE, vec![rule(), After("user 0", "46", "once more")]),
+        ("rule-2-and-at-the-end", RULE_TWICE, vec![rule(), After("draft 5", "46", "once more")]),
+        ("rule-2-before-the-counter", FIRST, vec![Set("counter", "46", "rule 2"), After("counter", "40 00000005", "and only then the counter")]),
+        ("rule-2-on-both-sides-of-the-counter", FIRST, vec![
+            Set("counter", "46", "rule 2"),
+            After("counter", "46", "rule 2 once more"),
+            After("counter", "40 00000005", "the counter"),
+        ]),
+        ("rule-2-without-counter", FIRST, vec![Set("counter", "46", "rule 2, and no counter")]),
+        ("rule-2-behind-a-user", RULE, vec![After("user 0", "46", "rule 2, behind user 0")]),
+        ("rule-2-behind-the-users", RULE, vec![After("user 3", "46", "rule 2, behind the users")]),
+        ("rule-2-behind-a-room", RULE, vec![After("room 2", "46", "rule 2, behind the rooms")]),
+        ("rule-2-behind-a-script", RULE, vec![After("script 0", "46", "rule 2, behind a script")]),
+        ("rule-2-behind-a-session", RULE, vec![After("session 2", "46", "rule 2, behind the sessions")]),
+        ("rule-2-between-drafts", RULE, vec![After("draft 3", "46", "rule 2, between drafts")]),
+        ("rule-2-at-the-end", RULE, vec![After("draft 5", "46", "rule 2, at the end")]),
+        ("rule-2-behind-two-counters", SECOND, vec![rule(), After("counter", "40 00000005", "the counter once more")]),
+        ("rule-2-between-two-counters", SECOND, vec![After("counter", "40 00000005", "the counter once more"), rule()]),
+        ("rule-2-with-a-body", UNKNOWN, vec![After("counter", "46 02", "rule 2 has no body, and 02 is no kind")]),
+        ("cut-counter-with-rule-2", CUT, vec![End("counter", "40 0000 46", "the counter, one byte short: this 46 is in its body")]),
+        ("counter-70", ACCEPTED, vec![Set("counter", "40 00000046", "last number 70: this 46 is in the counter's body, and the rule is 1")]),
+        ("counter-70-and-rule-2", ACCEPTED, vec![Set("counter", "40 00000046", "last number 70"), rule()]),
+        ("rule-2-and-cut-user", CUT, vec![rule(), End("user 0", "41 00 00 05 0003 00000000 00000006", "user 0, one byte short")]),
+        ("rule-2-and-cut-draft", CUT, vec![rule(), End("draft 5", "45", "a draft without its body")]),
+        ("rule-2-twice-and-cut", CUT, vec![After("counter", "46", "twice would be 15"), rule(), cut()]),
+        ("rule-2-behind-a-room-and-cut", CUT, vec![After("room 1", "46", "rule 2 would be 15 here"), cut()]),
+        ("rule-2-without-counter-and-cut", CUT, vec![Set("counter", "46", "no counter would be 15"), cut()]),
+        ("rule-2-and-unknown-kind", UNKNOWN, vec![rule(), After("user 3", "47", "no kind today")]),
+        ("rule-2-and-unknown-kind-before-cut", UNKNOWN, vec![rule(), After("user 3", "48", "no kind"), End("draft 5", "45 00", "a body cut behind it")]),
+        ("rule-2-and-user-64", "15: user over 63", vec![rule(), After("user 3", "41 40 00 00 0000 00000000 00000000 00", "user 64")]),
+        ("rule-2-and-users-falling", "15: users not ascending", vec![
+            rule(),
+            Without("user 3"),
+            After("user 1", "41 03 02 00 0000 00000000 00000000 00", "user 3 before user 2"),
+        ]),
+        ("rule-2-and-room-without-lead", LEAD, vec![
+            rule(),
+            Set("user 0", "41 00 00 05 0003 00000000 00000004 01", "leads room 2; nobody leads room 1"),
+        ]),
+        // Import's rule is none of the records: whatever labels two scripts have, both rules open the desk.
+        ("house-script-higher", ACCEPTED, vec![Set("script 0", "43 00 04 0003 00", "script 0 of the house, above script 1")]),
+        ("rule-2-and-house-script-higher", ACCEPTED, vec![rule(), Set("script 0", "43 00 04 0003 00", "script 0 of the house, above script 1")]),
+        ("house-script-lower", ACCEPTED, vec![Set("script 0", "43 00 01 0000 00", "script 0 of the house, below script 1")]),
+        ("rule-2-and-house-script-lower", ACCEPTED, vec![rule(), Set("script 0", "43 00 01 0000 00", "script 0 of the house, below script 1")]),
     ]
 }
 
@@ -367,7 +423,7 @@ fn edited(edits: &[Edit]) -> Vec<Line> {
 
 /// Writes a file for each case; its first line is the answer.
 pub fn write(folder: &str) -> Result<(), String> {
-    let changed = [form(), bounds_of_users(), bounds(), records_named(), rules_of_people(), rules_of_sessions_and_drafts()];
+    let changed = [form(), rules_of_import(), bounds_of_users(), bounds(), records_named(), rules_of_people(), rules_of_sessions_and_drafts()];
     let changed = changed.into_iter().flatten().map(|(name, answer, edits)| (name.to_string(), answer, edited(&edits)));
     for (name, answer, records) in changed.chain(whole_images::all()) {
         let width = records.iter().map(|(hex, _)| hex.len()).max().unwrap_or(0);

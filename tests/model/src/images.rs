@@ -1,10 +1,12 @@
 // Holds the program to images: stored ones with the answer that each names, and every small change of a middling one.
 
-use crate::desk::Desk;
+use crate::desk::{House, Rule, Script, HOUSE};
 use crate::drive::{hex_file, Opening, Program, Ran, Wanted};
 use crate::generate::{going_on, Chance};
 use crate::image::{self, faults};
 use crate::program::lines;
+use crate::request::Request;
+use crate::restarts::ByRule;
 use crate::rules::Checked;
 use std::collections::BTreeSet;
 use std::fs;
@@ -42,9 +44,9 @@ impl Counts {
 fn compare(program: &Program, bytes: &[u8], counts: &mut Counts) -> Result<(), String> {
     let ran = program.run(Opening::From(bytes), &[], false).map_err(|error| error.to_string())?;
     match image::read(bytes) {
-        Ok((house, last)) => {
+        Ok(desk) => {
             counts.accepted += 1;
-            if image::write(&house, last) != bytes {
+            if image::write(&desk) != bytes {
                 return Err("the model writes what it read as other bytes".into());
             }
             held(&ran, &Wanted { out: &[], errors: "", saved: Some(bytes) })
@@ -67,6 +69,7 @@ pub fn stored(program: &Program, files: &[String]) -> Result<(), String> {
     let mut counts = Counts::default();
     let mut missing: BTreeSet<&str> = faults().into_iter().collect();
     let mut requests = 0;
+    let mut by_rule = ByRule::default();
     for file in files {
         let told = |what: String| format!("{file}: {what}");
         let text = fs::read_to_string(file).map_err(|error| told(error.to_string()))?;
@@ -83,39 +86,61 @@ pub fn stored(program: &Program, files: &[String]) -> Result<(), String> {
             return Err(told(format!("the file says {first:?}, the model {answer:?}")));
         }
         compare(program, &bytes, &mut counts).map_err(told)?;
-        requests += go_on(program, &bytes).map_err(told)?;
+        requests += go_on(program, &bytes, &mut by_rule).map_err(told)?;
     }
     if let Some(fault) = missing.first() {
         return Err(format!("no stored image is refused for: {fault}"));
     }
-    println!("{} stored ({}; {requests} requests after opening)", counts.all(), counts.words());
+    if by_rule.too_few() {
+        return Err(format!("too little is tried after opening: {}", by_rule.words()));
+    }
+    println!("{} stored ({}; {requests} requests after opening, {})", counts.all(), counts.words(), by_rule.words());
     Ok(())
 }
 
 /// How many requests an accepted image is gone on with.
 const GOING_ON: usize = 60;
 
-/// A generated run on an accepted image, with reasons; first an administrator's take-back, which is 12.
-fn go_on(program: &Program, bytes: &[u8]) -> Result<usize, String> {
-    let Ok((house, last)) = image::read(bytes) else { return Ok(0) };
+/// Each room script's first draft into each house script, by the room's lead: some of these only one of the rules grants.
+fn imports(house: &House) -> Vec<Request> {
+    let scripts = |of_house: bool| house.scripts.iter().filter(move |(_, script)| (script.origin == HOUSE) == of_house);
+    let mut out = Vec::new();
+    for (script1, Script { origin: room, .. }) in scripts(false) {
+        let u = house.users.iter().find(|(_, user)| user.led.contains(*room)).map(|(u, _)| *u);
+        let v = house.drafts.iter().find(|(_, draft)| draft.script == *script1).map(|(v, _)| *v);
+        let (Some(u), Some(v)) = (u, v) else { continue };
+        out.extend(scripts(true).map(|(script2, _)| Request::Import { u, script1: *script1, v, script2: *script2, room: *room }));
+    }
+    out
+}
+
+/// A run on an accepted image, with reasons: first an administrator's take-back, which is 12, then Imports, then a generated run.
+fn go_on(program: &Program, bytes: &[u8], by_rule: &mut ByRule) -> Result<usize, String> {
+    let Ok(desk) = image::read(bytes) else { return Ok(0) };
     let mut run = Vec::new();
-    let administrator = house.users.iter().find(|(_, user)| user.administrator).map(|(u, _)| *u);
+    let administrator = desk.house.users.iter().find(|(_, user)| user.administrator).map(|(u, _)| *u);
     if let Some(u) = administrator {
         run.extend([0x20, u]);
     }
-    run.extend(going_on(bytes.len() as u64, GOING_ON, Desk::of(house.clone(), last), true));
-    let mut desk = Checked::of(Desk::of(house, last));
+    let mut after = desk.clone();
+    for request in imports(&desk.house) {
+        after.answer(&request);
+        run.extend(request.bytes());
+    }
+    run.extend(going_on(bytes.len() as u64, GOING_ON, after, true));
+    by_rule.count(&desk, &run);
+    let mut desk = Checked::of(desk);
     let out = lines(&mut desk, &run, true)?;
     if administrator.is_some() && !out.starts_with("1 20 CC - 12 00 0 0 0\n") {
         return Err("the model takes back right after opening".into());
     }
     let ran = program.run(Opening::From(bytes), &run, true).map_err(|error| error.to_string())?;
-    let saved = image::write(&desk.desk.house, desk.desk.last);
+    let saved = image::write(&desk.desk);
     held(&ran, &Wanted { out: out.as_bytes(), errors: "", saved: Some(&saved) })?;
     Ok(out.lines().count())
 }
 
-/// Every cut of the image, every byte changed and left out, each record missing, doubled and swapped with the next, unknown kinds between records.
+/// Every cut of the image, every byte changed and left out, each record missing, doubled and swapped with the next, unknown kinds and the rule between records.
 pub fn changed(program: &Program, file: &str) -> Result<(), String> {
     let bytes = hex_file(Path::new(file))?;
     let records = records(&bytes)?;
@@ -136,10 +161,13 @@ pub fn changed(program: &Program, file: &str) -> Result<(), String> {
     });
     let counts = first?.and(second?);
     let (length, kinds) = (bytes.len(), records.iter().map(|r| r[0]).collect::<BTreeSet<u8>>());
-    if length < 300 || kinds.len() != 6 || counts.accepted == 0 || counts.cut < length - 50 || counts.no_image < length {
+    // Under rule 2 the rule is a kind more.
+    let all_kinds = if image::read(&bytes).is_ok_and(|desk| desk.rule == Rule::Two) { 7 } else { 6 };
+    if length < 300 || kinds.len() != all_kinds || counts.accepted == 0 || counts.cut < length - 50 || counts.no_image < length {
         return Err(format!("{file}: too little is tried: {length} bytes, {}", counts.words()));
     }
-    println!("{length} bytes changed in {} ways ({})", counts.all(), counts.words());
+    let rule = if all_kinds == 7 { "of rule 2 " } else { "" };
+    println!("{length} bytes {rule}changed in {} ways ({})", counts.all(), counts.words());
     Ok(())
 }
 
@@ -177,7 +205,9 @@ fn changes(bytes: &[u8], records: &[&[u8]]) -> Vec<Change> {
         push("twice", &[&before, record, record, &after]);
         push("again at the end", &[bytes, record]);
         push("alone", &[record]);
-        push("behind an unknown kind", &[&before, &[0x46], record, &after]);
+        push("behind an unknown kind", &[&before, &[0x47], record, &after]);
+        push("behind the rule", &[&before, &[image::RULE], record, &after]);
+        push("cut behind the rule", &[&before, &[image::RULE], &record[..1]]);
         push("cut behind an unknown kind", &[&before, &[0x3F], &record[..1]]);
         push("cut, with an unknown kind in its body", &[&before, &record[..1], &[0xFF]]);
         if let Some(next) = records.get(at + 1) {

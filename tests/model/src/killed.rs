@@ -1,6 +1,6 @@
 // Kills the program while it saves, at every moment that can be told apart, and looks at the image: the old one or the new one, whole.
 
-use crate::desk::Desk;
+use crate::desk::{Desk, Rule};
 use crate::drive::Program;
 use crate::generate::{generate, going_on, Chance};
 use crate::image;
@@ -69,14 +69,17 @@ pub fn each_moment(program: &Program, by_chance: bool) -> Result<(), String> {
 
 impl Saving<'_> {
     fn prepare(program: &Program, over: bool) -> Result<Saving<'_>, String> {
-        let mut desk = Checked::open(0);
-        lines(&mut desk, &generate(17, 400, 0, true), false)?;
+        // Each rule once.
+        let rule = if over { Rule::Two } else { Rule::One };
+        let mut desk = Checked::open(0, rule);
+        lines(&mut desk, &generate(17, 400, 0, rule, true), false)?;
         let Desk { house, last, .. } = desk.desk;
-        let old = image::write(&house, last);
-        let run = going_on(18, 60, Desk::of(house.clone(), last), true);
-        let mut desk = Checked::of(Desk::of(house, last));
+        let desk = Desk::of(house, last, rule);
+        let old = image::write(&desk);
+        let run = going_on(18, 60, desk.clone(), true);
+        let mut desk = Checked::of(desk);
         lines(&mut desk, &run, false)?;
-        let new = image::write(&desk.desk.house, desk.desk.last);
+        let new = image::write(&desk.desk);
         fs::write(program.file("requests"), run).map_err(|error| error.to_string())?;
         Ok(Saving { program, old, new, over })
     }

@@ -10,6 +10,7 @@ mod generate;
 mod image;
 mod image_cases;
 mod images;
+mod imports;
 mod killed;
 mod pieces;
 mod places;
@@ -23,6 +24,7 @@ mod rules;
 mod trace;
 mod whole_images;
 
+use desk::Rule;
 use drive::Program;
 use program::Arguments;
 use request::{frame, Frame};
@@ -31,17 +33,18 @@ use std::io::{self, Read, Write};
 use std::process::ExitCode;
 
 const USAGE: &str = "usage:
-model [--last N | --from IMAGE] [--save IMAGE] [--why] < requests       (stands in for the program `desk`)
-model run [--last N | --from IMAGE] [--save IMAGE] [--why] < requests   (--opened is --last)
-model generate SEED COUNT [--opened N] [--whole] > requests
+model [--last N | --from IMAGE] [--rule R] [--save IMAGE] [--why] < requests       (stands in for the program `desk`)
+model run [--last N | --from IMAGE] [--rule R] [--save IMAGE] [--why] < requests   (--opened is --last)
+model generate SEED COUNT [--opened N] [--rule R] [--whole] > requests
+model rule-of SEED               (the rule under which a seed's run goes in a comparison)
 model requests < requests        (ordinal and hex, a line each)
 model pieces < bytes > bytes     (the same bytes, written in odd pieces)
-model batch < cases              (NAME LAST ROOM PLACE REQUESTS, a line each)
+model batch < cases              (NAME LAST ROOM PLACE REQUESTS, a line each; LAST is N, N/R or +)
 model batches SEED COUNT > cases
 model coverage COUNT SEED..
 model stored FILE..              (whether these runs, in commented hex, meet every condition)
 model make-images FOLDER         (writes the stored images)
-model judged IMAGE < requests    (how many of them lead to the image)
+model judged IMAGE < requests    (how many of them lead to the image, under its rule)
 and these, which drive a program, given as the words of a command, with files in FOLDER:
 model stored-images FOLDER FILE.. -- PROGRAM..
 model changed-images FOLDER FILE -- PROGRAM..
@@ -49,7 +52,7 @@ model image-runs FOLDER SEED COUNT -- PROGRAM..
 model restarts FOLDER SEED COUNT -- PROGRAM..
 model killed FOLDER [--by-chance] -- PROGRAM..
 model unread -- COMMAND..        (with a standard output that nobody reads)";
-const WORDS: [&str; 8] = ["run", "generate", "requests", "pieces", "batch", "batches", "coverage", "stored"];
+const WORDS: [&str; 9] = ["run", "generate", "rule-of", "requests", "pieces", "batch", "batches", "coverage", "stored"];
 const DRIVING: [&str; 8] =
     ["make-images", "judged", "stored-images", "changed-images", "image-runs", "restarts", "killed", "unread"];
 
@@ -122,20 +125,25 @@ fn own(word: &str, mut rest: Vec<String>) -> io::Result<()> {
     let measured = |complete: bool| if complete { Ok(()) } else { Err(io::Error::other("not everything was met")) };
     if word == "stored" {
         let texts: Vec<String> = rest.iter().map(std::fs::read_to_string).collect::<Result<_, _>>()?;
-        return measured(coverage::stored(&texts).map_err(io::Error::other)?);
+        let files: Vec<(String, String)> = rest.into_iter().zip(texts).collect();
+        return measured(coverage::stored(&files).map_err(io::Error::other)?);
     }
-    let mut opened = 0;
-    if let Some(at) = rest.iter().position(|w| w == "--opened") {
-        opened = rest.get(at + 1).and_then(|w| w.parse().ok()).ok_or_else(usage)?;
+    let mut value = |flag: &str, otherwise: u32| -> io::Result<u32> {
+        let Some(at) = rest.iter().position(|w| w == flag) else { return Ok(otherwise) };
+        let value = rest.get(at + 1).and_then(|w| w.parse().ok()).ok_or_else(usage)?;
         rest.drain(at..at + 2);
-    }
+        Ok(value)
+    };
+    let opened = value("--opened", 0)?;
+    let rule = Rule::of(value("--rule", 1)?).ok_or_else(usage)?;
     let mut said = |flag: &str| rest.iter().position(|w| w == flag).map(|at| rest.remove(at)).is_some();
     let whole = said("--whole");
     let numbers: Vec<u64> = rest.iter().map(|w| w.parse().map_err(|_| usage())).collect::<Result<_, _>>()?;
     match (word, &numbers[..]) {
         ("generate", [seed, count]) => {
-            io::stdout().write_all(&generate::generate(*seed, *count as usize, opened, whole))
+            io::stdout().write_all(&generate::generate(*seed, *count as usize, opened, rule, whole))
         }
+        ("rule-of", [seed]) => writeln!(io::stdout(), "{}", Rule::of_seed(*seed).number()),
         ("requests", []) => requests(),
         ("pieces", []) => pieces::write(&input()?),
         ("batch", []) => batch(),

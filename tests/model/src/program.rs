@@ -1,6 +1,6 @@
 // The model as the program `desk`: its arguments, its lines, its images and what it says when something fails.
 
-use crate::desk::Desk;
+use crate::desk::{Desk, Rule};
 use crate::image;
 use crate::reasons::Reason;
 use crate::request::{frame, Frame};
@@ -11,7 +11,7 @@ use std::io::{self, Read, Write};
 use std::os::unix::ffi::OsStrExt;
 use std::path::Path;
 
-pub const USAGE: &str = "usage: [--last N | --from IMAGE] [--save IMAGE] [--why] < requests > lines";
+pub const USAGE: &str = "usage: [--last N | --from IMAGE] [--rule R] [--save IMAGE] [--why] < requests > lines";
 
 /// A longer file is no image.
 const LONGEST: u64 = 65_536;
@@ -19,6 +19,7 @@ const LONGEST: u64 = 65_536;
 #[derive(Default)]
 pub struct Arguments {
     last: Option<u32>,
+    rule: Option<u32>,
     from: Option<OsString>,
     save: Option<OsString>,
     why: bool,
@@ -33,6 +34,7 @@ impl Arguments {
             let fresh = match word.to_str()? {
                 "--why" => !std::mem::replace(&mut arguments.why, true),
                 "--last" | "--opened" => arguments.last.replace(number(words.next()?)?).is_none(),
+                "--rule" => arguments.rule.replace(number(words.next()?)?).is_none(),
                 "--from" => arguments.from.replace(words.next()?.clone()).is_none(),
                 "--save" => arguments.save.replace(words.next()?.clone()).is_none(),
                 _ => false,
@@ -41,7 +43,9 @@ impl Arguments {
                 return None;
             }
         }
-        if arguments.last.is_some() && arguments.from.is_some() { None } else { Some(arguments) }
+        // The image says both.
+        let beside = arguments.last.is_some() || arguments.rule.is_some();
+        if arguments.from.is_some() && beside { None } else { Some(arguments) }
     }
 }
 
@@ -57,7 +61,11 @@ type Said = Vec<String>;
 /// Runs as the program does; a broken rule of the model's own is the error.
 pub fn run(arguments: &Arguments) -> Result<Said, String> {
     let desk = match &arguments.from {
-        None => Desk::open(arguments.last.unwrap_or(0)),
+        None => {
+            let number = arguments.rule.unwrap_or(1);
+            let Some(rule) = Rule::of(number) else { return Ok(vec![format!("--rule {number}: refused 3")]) };
+            Desk::open(arguments.last.unwrap_or(0), rule)
+        }
         Some(name) => match open(name) {
             Ok(desk) => desk,
             Err(reason) => return Ok(vec![about(name, &reason)]),
@@ -75,8 +83,7 @@ pub fn run(arguments: &Arguments) -> Result<Said, String> {
         said.push(format!("standard output: {error}"));
     }
     if let Some(name) = &arguments.save {
-        let Desk { house, last, .. } = &desk.desk;
-        if let Err(error) = save(name, &image::write(house, *last)) {
+        if let Err(error) = save(name, &image::write(&desk.desk)) {
             said.push(about(name, &error.to_string()));
         }
     }
@@ -95,8 +102,7 @@ fn open(name: &OsStr) -> Result<Desk, String> {
     if bytes.len() as u64 > LONGEST {
         return Err(format!("refused {}", image::NO_IMAGE));
     }
-    let (house, last) = image::read(&bytes).map_err(|refused| format!("refused {}", refused.number))?;
-    Ok(Desk::of(house, last))
+    image::read(&bytes).map_err(|refused| format!("refused {}", refused.number))
 }
 
 /// A new file beside it is written and flushed, and takes the name: whoever looks finds the old image or the new one.

@@ -276,7 +276,10 @@ impl Desk {
             }
             Read { s, script, .. } => Cover(Record::Session(s), session(s), script_(script)),
             Update { s, script, .. } => Equal(Record::Session(s), session(s), script_(script)),
-            Import { script1, script2, .. } => Equal(Record::Script(script2), script_(script2), script_(script1)),
+            Import { script1, script2, .. } => match self.rule {
+                Rule::One => Equal(Record::Script(script2), script_(script2), script_(script1)),
+                Rule::Two => Cover(Record::Script(script2), script_(script2), script_(script1)),
+            },
             _ => return None,
         })
     }

@@ -5,10 +5,10 @@ use crate::request::Request::{self, *};
 use std::collections::VecDeque;
 
 /// A rule's words, and whether the records keep it.
-type Rule = (&'static str, bool);
+type RecordRule = (&'static str, bool);
 
 /// The bounds, of which the reader of images tests more.
-fn bounds(h: &House) -> [Rule; 5] {
+fn bounds(h: &House) -> [RecordRule; 5] {
     [
         ("bounds of users", h.users.iter().all(|(n, u)| *n <= 63 && u.sort <= 2 && u.level <= 7)),
         ("bounds of rooms", h.rooms.iter().all(|r| (1..=16).contains(&r))),
@@ -19,7 +19,7 @@ fn bounds(h: &House) -> [Rule; 5] {
 }
 
 /// The record rules. One that asks a record which is not there is kept: that it is missing breaks another.
-pub fn rules(h: &House, last: u32) -> [Rule; 18] {
+pub fn rules(h: &House, last: u32) -> [RecordRule; 18] {
     let drafted = h.drafted();
     let place = |p: u8| p == HOUSE || h.rooms.contains(p);
     let owner = |s: &Session, fits: &dyn Fn(&User) -> bool| h.users.get(&s.owner).map_or(true, fits);
@@ -84,12 +84,12 @@ pub fn rules(h: &House, last: u32) -> [Rule; 18] {
 }
 
 /// The words of those that are broken.
-pub fn broken(rules: impl IntoIterator<Item = Rule>) -> impl Iterator<Item = &'static str> {
+pub fn broken(rules: impl IntoIterator<Item = RecordRule>) -> impl Iterator<Item = &'static str> {
     rules.into_iter().filter(|(_, kept)| !kept).map(|(words, _)| words)
 }
 
 /// A desk that checks its every step. What is checked when:
-/// - each request: the counter, the kept count and the number of changes move as the answer says;
+/// - each request: the counter, the kept count and the number of changes move as the answer says, and the rule stays;
 /// - after a refusal or a Read: the records are those of before, which met the rules;
 /// - after a kept change: the record rules, and the records are the base with the kept changes replayed;
 /// - after a Take back: the record rules, and the records are those that stood before the change, kept as a copy;
@@ -115,8 +115,8 @@ fn hold(fact: bool, rule: &str) -> Result<(), String> {
 }
 
 impl Checked {
-    pub fn open(last: u32) -> Checked {
-        Checked::of(Desk::open(last))
+    pub fn open(last: u32, rule: Rule) -> Checked {
+        Checked::of(Desk::open(last, rule))
     }
 
     /// From a desk just opened.
@@ -127,8 +127,9 @@ impl Checked {
     /// Answers the request and checks the step; a broken rule is named.
     pub fn answer(&mut self, request: &Request) -> Result<Answer, String> {
         let before = self.desk.house.clone();
-        let counts = self.counts();
+        let (counts, rule) = (self.counts(), self.desk.rule);
         let answer = self.desk.answer(request);
+        hold(self.desk.rule == rule, "the rule changed")?;
         hold(moved(counts, request, &answer) == Some(self.counts()), "the counts did not move as answered")?;
         match request {
             _ if !answer.granted() => hold(self.desk.house == before, "a refusal changed the records")?,

@@ -7,6 +7,7 @@ pub const ACCEPTED: &str = "accepted";
 pub const CUT: &str = "14: an end inside a body";
 pub const UNKNOWN: &str = "15: an unknown kind";
 pub const LEAD: &str = "15: one lead for each room";
+pub const FIRST: &str = "15: the first record is not the counter";
 
 /// The images with their files' names and answers.
 pub fn all() -> Vec<(String, &'static str, Vec<Line>)> {
@@ -14,6 +15,12 @@ pub fn all() -> Vec<(String, &'static str, Vec<Line>)> {
     let mut all = vec![
         ("empty".into(), "14: no bytes", lines(&[])),
         ("nobody".into(), ACCEPTED, lines(&[("40 00000000", "the empty desk: last number 0, no record")])),
+        ("nobody-rule-2".into(), ACCEPTED, lines(&[("40 00000000", "last number 0, no record"), ("46", "rule 2")])),
+        ("nobody-rule-2-twice".into(), "15: the rule twice", lines(&[("40 00000000", "last number 0"), ("46", "rule 2"), ("46", "once more")])),
+        ("nobody-rule-2-first".into(), FIRST, lines(&[("46", "rule 2"), ("40 00000000", "and only then the counter")])),
+        ("nobody-rule-2-cut".into(), CUT, lines(&[("40 00000000", "last number 0"), ("46", "rule 2"), ("41", "a user without its body")])),
+        ("nobody-rule-2-and-a-line-end".into(), UNKNOWN, lines(&[("40 00000000", "last number 0"), ("46", "rule 2"), ("0A", "a line end is no kind")])),
+        ("nobody-at-the-top-rule-2".into(), ACCEPTED, lines(&[("40 FFFFFFFF", "no record, and no number left"), ("46", "rule 2")])),
         ("nobody-at-the-top".into(), ACCEPTED, lines(&[("40 FFFFFFFF", "no record, and no number left")])),
         ("nobody-and-a-script".into(), ACCEPTED, lines(&[
             ("40 00000001", "no run leads to this desk, but it keeps the rules"),
@@ -29,6 +36,16 @@ pub fn all() -> Vec<(String, &'static str, Vec<Line>)> {
             ("40 00000000", "last number 0"),
             ("41 00 00 05 0003 00000000 00000000 01", "user 0, as enrolled"),
         ])),
+        ("one-administrator-rule-2".into(), ACCEPTED, lines(&[
+            ("40 00000000", "last number 0"),
+            ("46", "rule 2"),
+            ("41 00 00 05 0003 00000000 00000000 01", "user 0, as enrolled"),
+        ])),
+        ("one-administrator-and-rule-2".into(), "15: the rule not directly behind the counter", lines(&[
+            ("40 00000000", "last number 0"),
+            ("41 00 00 05 0003 00000000 00000000 01", "user 0, as enrolled"),
+            ("46", "rule 2"),
+        ])),
         ("one-without-administrator".into(), "15: a house administrator if there is any user", lines(&[
             ("40 00000000", "last number 0"),
             ("41 00 00 05 0003 00000000 00000000 00", "user 0, no administrator"),
@@ -37,13 +54,22 @@ pub fn all() -> Vec<(String, &'static str, Vec<Line>)> {
     for kind in 0x40..=0x45 {
         all.push((format!("kind-{kind:02X}-alone"), CUT, vec![(format!("{kind:02X}"), "a kind without its body".into())]));
     }
-    for kind in ["00", "01", "3F", "46", "80", "FF"] {
+    for kind in ["00", "01", "3F", "47", "80", "FF"] {
         all.push((format!("kind-{kind}-alone"), UNKNOWN, lines(&[(kind, "no kind")])));
     }
+    all.push(("kind-46-alone".into(), FIRST, lines(&[("46", "rule 2 has no body, but a counter stands before it")])));
     all.push(("middling".into(), ACCEPTED, lines(&MIDDLING)));
+    all.push(("middling-rule-2".into(), ACCEPTED, under_rule_2(lines(&MIDDLING))));
     all.push(("full".into(), ACCEPTED, full(256)));
+    all.push(("full-rule-2".into(), ACCEPTED, under_rule_2(full(256))));
     all.push(("drafts-257".into(), "15: more than 256 drafts", full(257)));
     all
+}
+
+/// The same desk under the other rule.
+fn under_rule_2(mut lines: Vec<Line>) -> Vec<Line> {
+    lines.insert(1, ("46".into(), "rule 2".into()));
+    lines
 }
 
 /// A desk in use, of which every byte is changed by the test.
