@@ -20,7 +20,7 @@ use Rattle.reasons.proofs.Asking.{more}
 use Rattle.judge.specs.declared.Ruling.{Ruling}
 use Rattle.judge.specs.declared.Ruling.the-variants.{KeepNumbered}
 use Rattle.judge.specs.Kinds.{importLines, linesOf, grantOf, grantIf, rulingOf}
-use Rattle.judge.specs.Amended.{IsImport, is-import, Amended, as-it-was, was-9, was-16}
+use Rattle.judge.specs.Amended.{IsImport, is-import, Amended, alike, refuses-9, refuses-16}
 
 -- ---- every other kind: the same lines by any two rules, so the same ruling
 pub lines-alike : (r s : Rule) (h : House) (q : Request) → (IsImport q → ⊥) → linesOf r h q ≡ linesOf s h q
@@ -56,12 +56,12 @@ module _ (by : ℕ → ℕ → Decided) (level c level′ c′ : ℕ) (after : L
   -- the parts that fail one way or the other, and those that fail the one way
   amended : (before : Asked) (f f′ g g′ p p′ : Bool) → Amended (ruled before (parts (f || f′) (g || g′) p)) (ruled before (parts f g p′))
   unfolding asked
-  amended (Fails r) f f′ g g′ p p′ = as-it-was refl
-  amended Holds true f′ g g′ p p′ = was-9 _ refl refl
-  amended Holds false true g g′ p p′ = was-9 _ refl refl
-  amended Holds false false true g′ p p′ = was-16 _ refl refl
-  amended Holds false false false true p p′ = was-16 _ refl refl
-  amended Holds false false false false p p′ = as-it-was refl
+  amended (Fails r) f f′ g g′ p p′ = alike refl
+  amended Holds true f′ g g′ p p′ = refuses-9 _ refl refl
+  amended Holds false true g g′ p p′ = refuses-9 _ refl refl
+  amended Holds false false true g′ p p′ = refuses-16 _ refl refl
+  amended Holds false false false true p p′ = refuses-16 _ refl refl
+  amended Holds false false false false p p′ = alike refl
 
 module _ (h : House) (u k₁ v k₂ room : ℕ) where
   -- what Import asks before the labels

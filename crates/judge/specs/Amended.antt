@@ -10,8 +10,8 @@ use Rattle.judge.specs.declared.Ruling.the-variants.{Refused}
 pub data IsImport : Request → Type 0 where
   is-import : (u k₁ v k₂ room : ℕ) → IsImport (Import u k₁ v k₂ room)
 
--- the rulings under rule 1 and under rule 2: they are one, or rule 1 refused with 9 or with 16
+-- the rulings by rule 1 and by rule 2: they are one, or rule 1 refuses with 9 or with 16
 pub data Amended (one two : Ruling) : Type 0 where
-  as-it-was : one ≡ two → Amended one two
-  was-9 : (r : Reason) → one ≡ Refused r → r .number ≡ 9 → Amended one two
-  was-16 : (r : Reason) → one ≡ Refused r → r .number ≡ 16 → Amended one two
+  alike : one ≡ two → Amended one two
+  refuses-9 : (r : Reason) → one ≡ Refused r → r .number ≡ 9 → Amended one two
+  refuses-16 : (r : Reason) → one ≡ Refused r → r .number ≡ 16 → Amended one two

@@ -14,13 +14,13 @@ use Rattle.reasons.specs.declared.Reason.{Reason}
 use Rattle.judge.specs.declared.Ruling.{Ruling}
 use Rattle.judge.specs.declared.Ruling.the-variants.{Refused}
 use Rattle.judge.specs.Kinds.{rulingOf}
-use Rattle.judge.specs.Amended.{IsImport, Amended, as-it-was, was-9, was-16}
+use Rattle.judge.specs.Amended.{IsImport, Amended, alike, refuses-9, refuses-16}
 use Rattle.judge.proofs.Amended.{judged-alike, import-amended}
 use Rattle.history.specs.Machine.{Verdict, refuse, pass, make, issue, undo, Desk, outcome, keepChange, takeBack, issued, ruled, step, run, answers}
 use Rattle.history.specs.Desk.{deskRules, verdictOf}
 use Rattle.history.specs.declared.Answer.{Answer}
 use Rattle.rules.specs.Lists.{Each}
-use Rattle.promises.specs.Amended.{StepAmended, alike, refused-9, refused-16}
+use Rattle.promises.specs.Amended.{StepAmended, one-outcome, refused-9, refused-16}
 
 -- a verdict is carried out alike by any two rules
 module _ (r s : Rule) (d : Desk House Change) where
@@ -56,7 +56,7 @@ module _ (r s : Rule) where
         then .1 ∙ (λ i. run (deskRules s) (one i .desk) qs),
       )
 
--- an Import: where the rules part, rule 1 refused with 9 or 16
+-- an Import: where the rules part, rule 1 refuses with 9 or 16
 module _ (d : Desk House Change) (u k₁ v k₂ room : ℕ) where
   abbrev q : Request
   q = Import u k₁ v k₂ room
@@ -69,6 +69,6 @@ module _ (d : Desk House Change) (u k₁ v k₂ room : ℕ) where
   import-stepped = go (import-amended (d .current) u k₁ v k₂ room)
     where
       go : Amended (rulingOf Rule.One (d .current) q) (rulingOf Rule.Two (d .current) q) → StepAmended d (step (deskRules Rule.One) d q) (step (deskRules Rule.Two) d q)
-      go (as-it-was e) = alike (by-ruling Rule.One Rule.Two d q e)
-      go (was-9 r e n) = refused-9 (refused-with r 9 e n)
-      go (was-16 r e n) = refused-16 (refused-with r 16 e n)
+      go (alike e) = one-outcome (by-ruling Rule.One Rule.Two d q e)
+      go (refuses-9 r e n) = refused-9 (refused-with r 9 e n)
+      go (refuses-16 r e n) = refused-16 (refused-with r 16 e n)

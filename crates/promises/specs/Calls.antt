@@ -1,5 +1,5 @@
--- Desks that bytes reach: an opening with any records and last number, then any calls of the batch, each with any bytes, any buffer and any place; and what
--- is promised of them.
+-- Desks that bytes reach: an opening with any records and last number, under a rule, then any calls of the batch, each with any bytes, any buffer and any place;
+-- and what is promised of them.
 use Prim.Native.Nat.{ℕ, _-_}
 use mathlib.Core.Bool.{true}
 use mathlib.Core.Path.{_≡_}
@@ -37,7 +37,7 @@ pub record Call : Type 0 where
 abbrev pub roomOf : Call → ℕ
 roomOf c = length (c .buffer) - c .place
 
--- these calls, each of which kept the batch's contract, lead from one desk to another
+-- these calls, each of which kept the batch's contract, lead from one desk under the rule to another
 pub data Calls (rule : Rule) : State → List Call → State → Type 0 where
   none : {d : State} → Calls rule d [] d
   then : {d d₁ d₂ : State} {cs : List Call} (c : Call) → Bytes (c .requests)
@@ -48,7 +48,7 @@ abbrev pub takenIn : Rule → State → List Call → List Request
 takenIn rule d [] = []
 takenIn rule d (c ∷ cs) = let qs : List Request = taken rule d (c .requests) (roomOf c) in qs ++ takenIn rule (run (deskRules rule) d qs) cs
 
--- ---- what is promised of the desk d that requests lead to from an opening with the records h and the last number `last`: demand 3, what the user fears, and
+-- ---- what is promised of the desk d that requests lead to from an opening under the rule with the records h and the last number `last`: demand 3, what the user fears, and
 -- the record rules
 pub record Promised (rule : Rule) (h : House) (last : ℕ) (qs : List Request) (d : State) : Type 0 where
   -- "the records equal those got by starting empty and applying, in order, every granted change that wasn't taken back, each with the draft number it

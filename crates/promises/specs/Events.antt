@@ -27,7 +27,7 @@ eventOf q Answer.Granted = grantShows q (grantOf q)
 eventOf q (Answer.Numbered n) = kept (changeOf q n)
 eventOf q (Answer.Refused n) = nothing
 
--- ---- the requests qs from a desk opened with the records h and the last number `last`: the desk then, and the answers
+-- ---- the requests qs from a desk opened under the rule with the records h and the last number `last`: the desk then, and the answers
 abbrev pub reachedDesk : Rule → House → ℕ → List Request → Desk House Change
 reachedDesk rule h last qs = run (deskRules rule) (opened h last) qs
 
