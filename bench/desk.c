@@ -40,6 +40,9 @@ static uint32_t number_at(const uint8_t *b) { return (uint32_t)b[0] << 24 | (uin
 static uint16_t categories_at(const uint8_t *b) { return (uint16_t)(b[0] << 8 | b[1]); }
 static uint32_t bit(unsigned place) { return place < 32 ? (uint32_t)1 << place : 0; }
 
+/* whether one label is above another: 9 for the level, 16 for the categories alone */
+static int above(unsigned level, unsigned c, unsigned over, unsigned d) { return level > over ? 9 : c & ~d ? 16 : 0; }
+
 /* the numbers ascend, so the draft is found by halves */
 static struct draft *find_draft(struct house *h, unsigned script, uint32_t number)
 {
@@ -88,6 +91,19 @@ static void leave(struct house *h, unsigned w, unsigned room)
     for (i = 0; i < 64; i++) {
         struct session *s = &h->sessions[i];
         if (s->writes && s->owner == w && s->place == room)
+            memset(s, 0, sizeof *s);
+    }
+}
+
+/* a new label for w, whose sessions above it end */
+static void set_label(struct house *h, unsigned w, unsigned level, unsigned categories)
+{
+    unsigned i;
+    h->users[w].level = (uint8_t)level;
+    h->users[w].categories = (uint16_t)categories;
+    for (i = 0; i < 64; i++) {
+        struct session *s = &h->sessions[i];
+        if (s->here && s->owner == w && above(s->level, s->categories, level, categories))
             memset(s, 0, sizeof *s);
     }
 }
@@ -146,10 +162,8 @@ static void apply(struct house *h, const uint8_t *f, uint32_t number)
     case 0x05:
         w = &h->users[f[2]];
         w->sort = 1;
-        if (!w->rooms) {
-            w->level = f[4];
-            w->categories = categories_at(f + 5);
-        }
+        if (!w->rooms)
+            set_label(h, f[2], f[4], categories_at(f + 5));
         w->rooms |= bit(f[3]);
         break;
     case 0x07:
@@ -198,8 +212,6 @@ static void apply(struct house *h, const uint8_t *f, uint32_t number)
 /* ---- the judge: 0 granted, else the refusal */
 
 static int is_room(unsigned room) { return room >= 1 && room <= 16; }
-/* 9 for the level, 16 for the categories alone */
-static int above(unsigned level, unsigned c, unsigned over, unsigned d) { return level > over ? 9 : c & ~d ? 16 : 0; }
 static int differ(unsigned level, unsigned c, unsigned other, unsigned d) { return level != other ? 9 : c != d ? 16 : 0; }
 
 static int no_users(void)

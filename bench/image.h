@@ -123,10 +123,9 @@ static int keeps_rules(const struct house *h, uint32_t number)
     for (i = 0; i < 64; i++) {
         const struct session *s = &h->sessions[i];
         const struct user *o = &h->users[s->owner];
-        if (s->here && !o->here)
+        if (s->here && (!o->here || above(s->level, s->categories, o->level, o->categories)))
             return 0;
-        if (s->writes && (!is_place(h, s->place) || (s->place ? !(o->rooms & bit(s->place)) : o->sort != 0) ||
-                          s->level > o->level || (s->categories & ~o->categories)))
+        if (s->writes && (!is_place(h, s->place) || (s->place ? !(o->rooms & bit(s->place)) : o->sort != 0)))
             return 0;
     }
     for (i = 0; i < 64; i++)
