@@ -1,4 +1,4 @@
-// The desk of document 01: records, effects, kept changes by replay.
+// The desk of document 01 as 02 amends it: records, effects, kept changes by replay.
 
 use crate::places::Places;
 use crate::reasons::{Failed, Reason};
@@ -223,6 +223,8 @@ impl House {
                 if user.joined.is_empty() {
                     user.level = level;
                     user.c = c;
+                    // Of any kind: one that is not covered would read on by the label of before.
+                    self.sessions.retain(|_, s| s.owner != w || s.level <= level && s.c & !c == 0);
                 }
                 user.joined.insert(room);
             }

@@ -45,7 +45,7 @@ const NUMBERS: &str = "15: draft numbers from 1 to the counter";
 const OUTSIDERS: &str = "15: outsiders with zero labels, in no room";
 const STAFF: &str = "15: only staff are administrators or leads";
 const MEMBERS: &str = "15: RW sessions owned by staff (house) or members of their room";
-const COVERED: &str = "15: RW sessions within the owner's label";
+const COVERED: &str = "15: sessions within the owner's label";
 const ROOM_ONLY: &str = "15: a room script's drafts in that room only";
 const HOUSE_OR_ONE: &str = "15: a house script's drafts with the house, or with exactly one room";
 
@@ -262,7 +262,10 @@ fn bounds() -> Vec<Case> {
             Set("session 2", "44 02 3F 00 0000 00 FF", "owner 63"),
         ]),
         ("session-owner-64", "15: owner over 63", vec![Set("session 2", "44 02 40 00 0000 00 FF", "owner 64")]),
-        ("session-level-7", ACCEPTED, vec![Set("session 2", "44 02 03 07 0000 00 FF", "level 7; RO, so the owner's label is not asked")]),
+        ("session-level-7", ACCEPTED, vec![
+            Set("user 1", "41 01 00 07 0001 00000002 00000000 00", "level 7"),
+            Set("session 2", "44 02 01 07 0000 00 FF", "user 1, level 7"),
+        ]),
         ("session-level-8", "15: level of a session over 7", vec![Set("session 2", "44 02 03 08 0000 00 FF", "level 8")]),
         ("session-kind-2", kind, vec![Set("session 2", "44 02 03 00 0000 02 FF", "neither RO nor RW")]),
         ("session-kind-2-with-a-place", kind, vec![Set("session 0", "44 00 01 02 0001 02 00", "neither RO nor RW")]),
@@ -391,7 +394,28 @@ fn rules_of_sessions_and_drafts() -> Vec<Case> {
         ("rw-session-with-a-category-more", COVERED, vec![Set("session 0", "44 00 01 02 0003 01 00", "category 0002, which user 1 lacks")]),
         ("room-session-above-the-level", COVERED, vec![Set("session 1", "44 01 02 03 0001 01 01", "level 3, above user 2's 2")]),
         ("room-session-with-a-category-more", COVERED, vec![Set("session 1", "44 01 02 01 8001 01 01", "category 8000, which user 2 lacks")]),
-        ("ro-session-above-the-label", ACCEPTED, vec![Set("session 2", "44 02 02 05 8001 00 FF", "user 2, RO: left over from an earlier label")]),
+        ("ro-session-with-the-whole-label", ACCEPTED, vec![Set("session 2", "44 02 02 02 0001 00 FF", "RO: user 2's whole label")]),
+        ("ro-session-below-the-label", ACCEPTED, vec![Set("session 2", "44 02 02 01 0000 00 FF", "RO: below user 2's label")]),
+        ("ro-session-above-the-level", COVERED, vec![Set("session 2", "44 02 02 03 0001 00 FF", "RO: level 3, above user 2's 2")]),
+        ("ro-session-with-a-category-more", COVERED, vec![Set("session 2", "44 02 02 01 8001 00 FF", "RO: a lower level, and category 8000, which user 2 lacks")]),
+        ("ro-session-above-the-label", COVERED, vec![Set("session 2", "44 02 02 05 8001 00 FF", "RO: as from an earlier label of user 2; accepted before L4")]),
+        ("rule-2-and-ro-session-above-the-label", COVERED, vec![
+            After("counter", "46", "rule 2"),
+            Set("session 2", "44 02 02 05 8001 00 FF", "RO: as from an earlier label of user 2"),
+        ]),
+        ("ro-session-of-staff-above-the-level", COVERED, vec![Set("session 2", "44 02 01 04 0001 00 FF", "RO: level 4, above user 1's 3")]),
+        ("ro-session-of-an-outsider", ACCEPTED, vec![After("session 2", "44 03 03 00 0000 00 FF", "RO: user 3's label is all zeros, and so is this")]),
+        ("ro-session-of-an-outsider-at-level-1", COVERED, vec![Set("session 2", "44 02 03 01 0000 00 FF", "RO: level 1, above user 3's 0")]),
+        ("ro-session-of-an-outsider-with-a-category", COVERED, vec![Set("session 2", "44 02 03 00 0001 00 FF", "RO: category 0001, and user 3 has none")]),
+        ("ro-session-of-a-freelancer-in-no-room", ACCEPTED, vec![
+            Set("user 3", "41 03 01 05 8000 00000000 00000000 00", "freelancer, in no room any more, with the label kept"),
+            Set("session 2", "44 02 03 05 8000 00 FF", "RO: the whole label still"),
+        ]),
+        ("ro-session-of-a-freelancer-in-no-room-above-the-level", COVERED, vec![
+            Set("user 3", "41 03 01 05 8000 00000000 00000000 00", "freelancer, in no room any more, with the label kept"),
+            Set("session 2", "44 02 03 06 8000 00 FF", "RO: level 6, above user 3's 5"),
+        ]),
+        ("sessions-with-one-above-the-level", COVERED, vec![After("session 2", "44 3F 02 03 0000 00 FF", "session 63, RO: level 3, above user 2's 2; all others are covered")]),
         ("room-draft-in-the-house", ROOM_ONLY, vec![Set("draft 5", "45 00000005 01 00000001", "in the house, not in room 1")]),
         ("room-draft-in-another-room", ROOM_ONLY, vec![Set("draft 5", "45 00000005 01 00000004", "in room 2, not in room 1")]),
         ("room-draft-in-the-house-too", ROOM_ONLY, vec![Set("draft 5", "45 00000005 01 00000003", "in room 1 and the house")]),

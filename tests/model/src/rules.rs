@@ -1,4 +1,4 @@
-// The record rules of document 01, clause by clause, and the model's checks of itself.
+// The record rules of document 01 as 02 amends them, clause by clause, and the model's checks of itself.
 
 use crate::desk::*;
 use crate::request::Request::{self, *};
@@ -59,10 +59,8 @@ pub fn rules(h: &House, last: u32) -> [RecordRule; 18] {
             }),
         ),
         (
-            "RW sessions within the owner's label",
-            h.sessions
-                .values()
-                .all(|s| s.place.is_none() || owner(s, &|u| s.level <= u.level && s.c & !u.c == 0)),
+            "sessions within the owner's label",
+            h.sessions.values().all(|s| owner(s, &|u| within(s.label(), u.label()))),
         ),
         (
             "a room script's drafts in that room only",
@@ -83,6 +81,11 @@ pub fn rules(h: &House, last: u32) -> [RecordRule; 18] {
     ]
 }
 
+/// Whether the second label covers the first.
+fn within((level, c): Label, (most, all): Label) -> bool {
+    level <= most && c & !all == 0
+}
+
 /// The words of those that are broken.
 pub fn broken(rules: impl IntoIterator<Item = RecordRule>) -> impl Iterator<Item = &'static str> {
     rules.into_iter().filter(|(_, kept)| !kept).map(|(words, _)| words)
@@ -91,6 +94,7 @@ pub fn broken(rules: impl IntoIterator<Item = RecordRule>) -> impl Iterator<Item
 /// A desk that checks its every step. What is checked when:
 /// - each request: the counter, the kept count and the number of changes move as the answer says, and the rule stays;
 /// - after a refusal or a Read: the records are those of before, which met the rules;
+/// - a granted Read: the script is within the label that the session's owner has now;
 /// - after a kept change: the record rules, and the records are the base with the kept changes replayed;
 /// - after a Take back: the record rules, and the records are those that stood before the change, kept as a copy;
 /// - each 100 requests, after the first thousand each time a tenth more are done, and at the end: base and records are
@@ -133,7 +137,10 @@ impl Checked {
         hold(moved(counts, request, &answer) == Some(self.counts()), "the counts did not move as answered")?;
         match request {
             _ if !answer.granted() => hold(self.desk.house == before, "a refusal changed the records")?,
-            Read { .. } => hold(self.desk.house == before, "a Read changed the records")?,
+            Read { s, script, .. } => {
+                hold(self.desk.house == before, "a Read changed the records")?;
+                hold(reads_within(&before, *s, *script), "a Read above the label of the session's owner")?;
+            }
             TakeBack { .. } => self.taken_back()?,
             _ => self.changed(before)?,
         }
@@ -178,6 +185,11 @@ impl Checked {
         hold(base == self.desk.base, "the base is not the replay of the older changes")?;
         hold(base.replayed(kept) == self.desk.house, "the records are not the replay of all changes")
     }
+}
+
+/// Whether the session's owner has a label, now, that covers the script's.
+fn reads_within(h: &House, s: u8, script: u8) -> bool {
+    within(h.scripts[&script].label(), h.user(h.sessions[&s].owner).label())
 }
 
 /// The counts after the request was so answered; None where it could not be.

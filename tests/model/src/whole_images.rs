@@ -100,7 +100,7 @@ const MIDDLING: [(&str, &str); 46] = [
     ("44 04 0A 02 0003 01 02", "session 4: user 10, RW in room 2"),
     ("44 08 0A 01 0000 01 03", "session 8: user 10, RW in room 3"),
     ("44 0B 01 03 0001 01 10", "session 11: user 1, RW in room 16"),
-    ("44 14 14 05 0001 00 FF", "session 20: user 20, RO, of an earlier label"),
+    ("44 14 14 04 0002 00 FF", "session 20: user 20, RO, with the whole label"),
     ("44 3F 3F 00 0000 00 FF", "session 63: user 63, RO"),
     ("45 00000001 00 00000001", "draft 1 of script 0: in the house"),
     ("45 00000002 00 00000003", "draft 2 of script 0: in the house and room 1"),
