@@ -1,5 +1,5 @@
-// What a set of runs reached: pairs of kind and answer, conditions with their reasons, refusals that apply together, the two labels at Import, and events
-// worth a name.
+// What a set of runs reached: pairs of kind and answer, conditions with their reasons, refusals that apply together, the two labels at Import, what a Join
+// outsider ends, and events worth a name.
 
 use crate::batch::bytes;
 use crate::conditions::{Condition, CONDITIONS};
@@ -8,6 +8,7 @@ use crate::generate::generate;
 use crate::imports::{self, standing, Standing, STANDINGS};
 use crate::reasons::Failed;
 use crate::request::{frame, Frame, Request, KINDS};
+use crate::returns::{self, Standing as Stands};
 use std::collections::{BTreeMap, BTreeSet};
 
 /// The answers that the tables of 01 and 02 allow a whole request of the kind, as bytes.
@@ -44,13 +45,21 @@ fn together(kind: u8) -> &'static [&'static [u8]] {
     }
 }
 
-const EVENTS: [&str; 17] = [
+const EVENTS: [&str; 25] = [
     "the 256th live draft",
     "a draft after one of 256 was deleted",
     "32 take-backs in a row, the 33rd refused with 12",
     "the desk emptied by take-backs",
     "a freelancer out of every room joins again",
     "a freelancer joins a second room",
+    "a label set by Join outsider ends a session above its level",
+    "a label set by Join outsider ends a session by the categories alone",
+    "a label set by Join outsider leaves a session that it covers",
+    "a label set by Join outsider leaves a session exactly at it",
+    "a label set by Join outsider ends one session and leaves another of the same owner",
+    "a label set by Join outsider ends a session and leaves another's that it does not cover",
+    "a second room leaves a session that the label named does not cover",
+    "a Join outsider that ended a session is taken back",
     "a room established again after Disband",
     "a script number used again",
     "Merge with the house already among the places",
@@ -73,7 +82,7 @@ pub struct Coverage {
     together: BTreeMap<(u8, Vec<u8>), usize>,
     /// By the rule, how the labels stand at an Import that no refusal before 9 applies to, and whether 256 drafts live.
     imports: BTreeMap<(Rule, Standing, bool), usize>,
-    /// Reasons that are in no row of the table, and answers to an Import that are not the documents'.
+    /// Reasons that are in no row of the table, answers to an Import that are not the documents', and sessions that a Join outsider ends or leaves against them.
     strays: BTreeSet<String>,
     events: BTreeMap<&'static str, usize>,
     taken_back: BTreeMap<u8, usize>,
@@ -103,6 +112,43 @@ impl Coverage {
         *self.imports.entry((rule, standing, full)).or_default() += 1;
         if answer.byte() != imports::answer(rule, standing, full) {
             self.strays.insert(format!("{:02X} to an Import under {rule:?}, {}", answer.byte(), imports::words(standing)));
+        }
+    }
+
+    /// A granted Join outsider, which may have set a label. An outsider's own sessions have the zero label, so what ends is a freelancer's.
+    fn joined(&mut self, before: &House, after: &House, w: u8, label: Label) {
+        let (sets, freelancer) = (returns::sets(before, w), before.users[&w].sort == FREELANCER);
+        let (mut ended, mut own_left, mut others_left) = (false, false, false);
+        for (s, session) in &before.sessions {
+            let (own, stands) = (session.owner == w, returns::standing(label, session.label()));
+            let (ends, gone) = (returns::ends(before, session, w, label), !after.sessions.contains_key(s));
+            if ends != gone {
+                self.strays.insert(format!("Join outsider, label set {sets}, own session {own}, {stands:?}: ended {gone}"));
+            }
+            let covered = matches!(stands, Stands::Same | Stands::Covers);
+            ended |= ends;
+            own_left |= own && covered;
+            others_left |= !own && !covered;
+            match (own && freelancer, sets, stands) {
+                (false, ..) => {}
+                (_, false, _) if covered => {}
+                (_, false, _) => self.event("a second room leaves a session that the label named does not cover"),
+                (_, _, Stands::Lower) => self.event("a label set by Join outsider ends a session above its level"),
+                (_, _, Stands::Lacks) => self.event("a label set by Join outsider ends a session by the categories alone"),
+                (_, _, Stands::Covers) => self.event("a label set by Join outsider leaves a session that it covers"),
+                (_, _, Stands::Same) => self.event("a label set by Join outsider leaves a session exactly at it"),
+            }
+        }
+        if ended && own_left {
+            self.event("a label set by Join outsider ends one session and leaves another of the same owner");
+        }
+        if ended && others_left {
+            self.event("a label set by Join outsider ends a session and leaves another's that it does not cover");
+        }
+        match (freelancer, sets) {
+            (true, true) => self.event("a freelancer out of every room joins again"),
+            (true, false) => self.event("a freelancer joins a second room"),
+            _ => {}
         }
     }
 
@@ -237,15 +283,12 @@ impl Coverage {
                 }
                 if after.sessions.keys().any(|s| !before.sessions.contains_key(s)) {
                     self.event("a taken-back request had ended a session");
+                    if matches!(undone, Request::JoinOutsider { .. }) {
+                        self.event("a Join outsider that ended a session is taken back");
+                    }
                 }
             }
-            Request::JoinOutsider { w, .. } if before.users[&w].sort == FREELANCER => {
-                if before.users[&w].joined.is_empty() {
-                    self.event("a freelancer out of every room joins again");
-                } else {
-                    self.event("a freelancer joins a second room");
-                }
-            }
+            Request::JoinOutsider { w, level, c, .. } => self.joined(before, after, w, (level, c)),
             Request::LeaveStaff { w, room, .. } if before.users[&w].led.contains(room) => {
                 self.event("a lead leaves as a member")
             }

@@ -53,6 +53,8 @@ struct Player {
     desk: Desk,
     /// Whether the run has many Imports, with labels that stand to each other in every way.
     importing: bool,
+    /// Whether freelancers often leave and come back, with sessions open.
+    returning: bool,
     /// A few labels, so that equal ones happen, and ones that differ in one part.
     labels: Vec<Label>,
 }
@@ -78,7 +80,9 @@ pub fn going_on(seed: u64, count: usize, desk: Desk, whole: bool) -> Vec<u8> {
     // Some runs take an early desk back to the empty one.
     let emptied = if chance.percent(25) { Some(stray + 1 + chance.below(24)) } else { None };
     let setup = if desk.house.users.is_empty() { SETTING_UP } else { 0 };
-    let mut player = Player { chance, desk, importing, labels };
+    // By the seed, so that odd and even ones meet it under both rules; the measured runs are played without.
+    let returning = seed / 4 % 2 == 1;
+    let mut player = Player { chance, desk, importing, returning, labels };
     let mut out = Vec::new();
     let mut in_a_row = 0;
     for ordinal in 0..count {
@@ -146,6 +150,11 @@ impl Player {
                 if let Some(request) = self.any_import() {
                     return request;
                 }
+            }
+        }
+        if self.returning && self.chance.percent(10) {
+            if let Some(request) = self.coming_back() {
+                return request;
             }
         }
         // Fewer where many Imports are, so that the desk is full sooner.
@@ -364,6 +373,62 @@ impl Player {
             }
             0x20 => TakeBack { u: self.user(|u| u.administrator)? },
             _ => return None,
+        })
+    }
+
+    /// A freelancer with a session open, in such rooms, and the label of one of the sessions.
+    fn freelancer(&mut self, fits: impl Fn(&User) -> bool) -> Option<(u8, Label)> {
+        let users = &self.desk.house.users;
+        let fits = |s: &&Session| users[&s.owner].sort == FREELANCER && fits(&users[&s.owner]);
+        let from: Vec<(u8, Label)> = self.desk.house.sessions.values().filter(fits).map(|s| (s.owner, s.label())).collect();
+        self.chance.one_of(&from)
+    }
+
+    /// A label that is the one given, or covers it, or does not: by the level, or by a category at an equal or a higher level.
+    fn near(&mut self, (level, c): Label) -> Label {
+        let (higher, fewer) = (7.min(level + 1), c & c.wrapping_sub(1));
+        let more = c | 1 << self.chance.below(16);
+        self.chance.one_of(&[(level, c), (level, more), (higher, c), (level.saturating_sub(1), more), (level, fewer), (higher, fewer)]).unwrap()
+    }
+
+    /// A step on the way of a freelancer who leaves all rooms with sessions open and comes back, or what shows what became of these.
+    fn coming_back(&mut self) -> Option<Request> {
+        if matches!(self.desk.changes.last(), Some(Change { request: JoinOutsider { .. }, .. })) && self.chance.percent(25) {
+            return self.propose(0x20);
+        }
+        Some(match self.chance.below(12) {
+            0..=3 => {
+                let (w, label) = self.freelancer(|w| w.joined.is_empty())?;
+                let (room, u) = self.led_room()?;
+                let (level, c) = self.near(label);
+                JoinOutsider { u, w, room, level, c }
+            }
+            // A second room, where nothing ends.
+            4 => {
+                let (room, u) = self.led_room()?;
+                let (w, label) = self.freelancer(|w| !w.joined.is_empty() && !w.joined.contains(room))?;
+                let (level, c) = self.near(label);
+                JoinOutsider { u, w, room, level, c }
+            }
+            5..=7 => {
+                let (w, _) = self.freelancer(|w| !w.joined.is_empty())?;
+                let joined: Vec<u8> = self.desk.house.users[&w].joined.iter().collect();
+                let room = self.chance.one_of(&joined)?;
+                LeaveOutsider { u: self.user(|u| u.led.contains(room))?, w, room }
+            }
+            8..=9 => {
+                let u = self.user(|u| u.sort == FREELANCER)?;
+                let s = self.free(|h, n| h.sessions.contains_key(&n))?;
+                let (level, c) = self.label_of(u);
+                OpenRo { u, s, level, c }
+            }
+            10 => return self.propose(0x13),
+            // A session that is free again is none.
+            _ => {
+                let s = self.free(|h, n| h.sessions.contains_key(&n))?;
+                let (script, v) = self.draft(|_, _| true)?;
+                Read { s, script, v }
+            }
         })
     }
 

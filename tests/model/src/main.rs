@@ -19,6 +19,7 @@ mod reasons;
 mod refusals;
 mod request;
 mod restarts;
+mod returns;
 mod rules;
 #[cfg_attr(not(all(target_os = "linux", target_arch = "x86_64")), path = "no_trace.rs")]
 mod trace;
