@@ -45,21 +45,13 @@ fn together(kind: u8) -> &'static [&'static [u8]] {
     }
 }
 
-const EVENTS: [&str; 25] = [
+const EVENTS: [&str; 17] = [
     "the 256th live draft",
     "a draft after one of 256 was deleted",
     "32 take-backs in a row, the 33rd refused with 12",
     "the desk emptied by take-backs",
     "a freelancer out of every room joins again",
     "a freelancer joins a second room",
-    "a label set by Join outsider ends a session above its level",
-    "a label set by Join outsider ends a session by the categories alone",
-    "a label set by Join outsider leaves a session that it covers",
-    "a label set by Join outsider leaves a session exactly at it",
-    "a label set by Join outsider ends one session and leaves another of the same owner",
-    "a label set by Join outsider ends a session and leaves another's that it does not cover",
-    "a second room leaves a session that the label named does not cover",
-    "a Join outsider that ended a session is taken back",
     "a room established again after Disband",
     "a script number used again",
     "Merge with the house already among the places",
@@ -71,6 +63,18 @@ const EVENTS: [&str; 25] = [
     "a lead kills another's session",
     "a taken-back request had ended a session",
     "an administrator takes back his own enrolment",
+];
+
+/// What a Join outsider does to the sessions of a freelancer: some end only where a label is set.
+const JOINS: [&str; 8] = [
+    "a label set by Join outsider ends a session above its level",
+    "a label set by Join outsider ends a session by the categories alone",
+    "a label set by Join outsider leaves a session that it covers",
+    "a label set by Join outsider leaves a session exactly at it",
+    "a label set by Join outsider ends one session and leaves another of the same owner",
+    "a label set by Join outsider ends a session and leaves another's that it does not cover",
+    "a second room leaves a session that the label named does not cover",
+    "a Join outsider that ended a session is taken back",
 ];
 
 #[derive(Default)]
@@ -92,7 +96,7 @@ pub struct Coverage {
 
 impl Coverage {
     fn event(&mut self, name: &'static str) {
-        debug_assert!(EVENTS.contains(&name));
+        debug_assert!(EVENTS.contains(&name) || JOINS.contains(&name));
         *self.events.entry(name).or_default() += 1;
     }
 
@@ -183,6 +187,19 @@ impl Coverage {
                 if times == 0 {
                     missing.push(format!("{kind:02X} together {refusals:?}"));
                 }
+            }
+        }
+        missing
+    }
+
+    /// The same of events that must happen so many times.
+    fn seldom(&self, events: &[&str], least: usize) -> Vec<String> {
+        let mut missing = Vec::new();
+        for event in events {
+            let times = self.events.get(event).copied().unwrap_or(0);
+            println!("{times} {event}");
+            if times < least {
+                missing.push(format!("{event}, {least} times"));
             }
         }
         missing
@@ -337,8 +354,8 @@ pub fn report(seeds: &[u64], count: usize) -> bool {
     complete
 }
 
-/// How often, at least, an Import gets each of its answers: one for so many runs.
-const RUNS_FOR_AN_ANSWER: usize = 4;
+/// How often, at least, an Import gets each of its answers, and a Join outsider ends or leaves sessions: once for so many runs.
+const RUNS_FOR_ONE: usize = 4;
 
 /// What runs under one rule reach, and what is missing.
 fn reached(seeds: &[u64], count: usize, rule: Rule) -> (Coverage, Vec<String>) {
@@ -352,6 +369,7 @@ fn reached(seeds: &[u64], count: usize, rule: Rule) -> (Coverage, Vec<String>) {
         let opened = u32::MAX - (seed % 80) as u32;
         near.run(&generate(*seed, count, opened, rule, false), opened, rule);
     }
+    let often = 1.max(seeds.len() / RUNS_FOR_ONE);
     let mut missing = Vec::new();
     for kind in KINDS {
         let mut line = format!("{kind:02X}");
@@ -360,7 +378,7 @@ fn reached(seeds: &[u64], count: usize, rule: Rule) -> (Coverage, Vec<String>) {
             let times = from.pairs.get(&(kind, byte)).copied().unwrap_or(0);
             line += &format!(" {byte:02X}:{times}");
             let common = kind == 0x09 && matches!(byte, 0x81 | 0xC9 | 0xD0 | 0xCA);
-            let least = if common { 1.max(seeds.len() / RUNS_FOR_AN_ANSWER) } else { 1 };
+            let least = if common { often } else { 1 };
             if times < least {
                 missing.push(format!("{kind:02X} {byte:02X}, {least} times"));
             }
@@ -384,13 +402,8 @@ fn reached(seeds: &[u64], count: usize, rule: Rule) -> (Coverage, Vec<String>) {
     missing.extend(near.unmet(&[rule], |n| n == 11));
     // Few runs fill a desk: with 256 live drafts the answers are asked for, not each pair of labels.
     missing.extend(all.never_imported(&[rule], false));
-    for event in EVENTS {
-        let times = all.events.get(event).copied().unwrap_or(0);
-        println!("{times} {event}");
-        if times == 0 {
-            missing.push(event.into());
-        }
-    }
+    missing.extend(all.seldom(&EVENTS, 1));
+    missing.extend(all.seldom(&JOINS, often));
     for kind in KINDS.iter().filter(|k| !matches!(k, 0x13 | 0x20)) {
         if !all.taken_back.contains_key(kind) {
             missing.push(format!("{kind:02X} taken back"));
@@ -408,8 +421,8 @@ fn rule_of(file: &str) -> Rule {
     if name.starts_with("rule-2-") { Rule::Two } else { Rule::One }
 }
 
-/// Whether stored runs, each a file's name and its text of commented hex, meet every condition that a desk opened with 0 can, and at Import all that the
-/// labels can be under either rule.
+/// Whether stored runs, each a file's name and its text of commented hex, meet every condition that a desk opened with 0 can, at Import all that the
+/// labels can be under either rule, and all that a Join outsider does to sessions.
 pub fn stored(files: &[(String, String)]) -> Result<bool, String> {
     let mut all = Coverage::default();
     for (name, text) in files {
@@ -418,6 +431,7 @@ pub fn stored(files: &[(String, String)]) -> Result<bool, String> {
     }
     let mut missing = all.unmet(&Rule::BOTH, |n| n != 11);
     missing.extend(all.never_imported(&Rule::BOTH, true));
+    missing.extend(all.seldom(&JOINS, 1));
     let second = files.iter().filter(|(name, _)| rule_of(name) == Rule::Two).count();
     println!("{} runs, {second} of them under rule 2, {} requests, {} conditions", files.len(), all.requests, all.conditions.len());
     Ok(complete(&missing))
