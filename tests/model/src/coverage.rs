@@ -65,7 +65,7 @@ const EVENTS: [&str; 17] = [
     "an administrator takes back his own enrolment",
 ];
 
-/// What a Join outsider does to the sessions of a freelancer: some end only where a label is set.
+/// What becomes of open sessions at a Join outsider. Only a freelancer's own can end, and only where a label is set.
 const JOINS: [&str; 8] = [
     "a label set by Join outsider ends a session above its level",
     "a label set by Join outsider ends a session by the categories alone",
@@ -119,15 +119,15 @@ impl Coverage {
         }
     }
 
-    /// A granted Join outsider, which may have set a label. An outsider's own sessions have the zero label, so what ends is a freelancer's.
+    /// A granted Join outsider, which may have set a label. An outsider's sessions have the zero label, which any covers, so they count for nothing.
     fn joined(&mut self, before: &House, after: &House, w: u8, label: Label) {
         let (sets, freelancer) = (returns::sets(before, w), before.users[&w].sort == FREELANCER);
         let (mut ended, mut own_left, mut others_left) = (false, false, false);
         for (s, session) in &before.sessions {
             let (own, stands) = (session.owner == w, returns::standing(label, session.label()));
-            let (ends, gone) = (returns::ends(before, session, w, label), !after.sessions.contains_key(s));
-            if ends != gone {
-                self.strays.insert(format!("Join outsider, label set {sets}, own session {own}, {stands:?}: ended {gone}"));
+            let (ends, now) = (returns::ends(before, session, w, label), after.sessions.get(s));
+            if now != Some(session).filter(|_| !ends) {
+                self.strays.insert(format!("Join outsider, label set {sets}, own session {own}, {stands:?}: then {now:?}"));
             }
             let covered = matches!(stands, Stands::Same | Stands::Covers);
             ended |= ends;

@@ -376,7 +376,7 @@ impl Player {
         })
     }
 
-    /// A freelancer with a session open, in such rooms, and the label of one of the sessions.
+    /// A freelancer with a session open, and that session's label.
     fn freelancer(&mut self, fits: impl Fn(&User) -> bool) -> Option<(u8, Label)> {
         let users = &self.desk.house.users;
         let fits = |s: &&Session| users[&s.owner].sort == FREELANCER && fits(&users[&s.owner]);
@@ -397,16 +397,11 @@ impl Player {
             return self.propose(0x20);
         }
         Some(match self.chance.below(12) {
-            0..=3 => {
-                let (w, label) = self.freelancer(|w| w.joined.is_empty())?;
+            0..=4 => {
+                // Or a second room, where nothing ends.
+                let back = self.chance.percent(80);
                 let (room, u) = self.led_room()?;
-                let (level, c) = self.near(label);
-                JoinOutsider { u, w, room, level, c }
-            }
-            // A second room, where nothing ends.
-            4 => {
-                let (room, u) = self.led_room()?;
-                let (w, label) = self.freelancer(|w| !w.joined.is_empty() && !w.joined.contains(room))?;
+                let (w, label) = self.freelancer(|w| w.joined.is_empty() == back && !w.joined.contains(room))?;
                 let (level, c) = self.near(label);
                 JoinOutsider { u, w, room, level, c }
             }
