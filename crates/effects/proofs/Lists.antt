@@ -1,60 +1,16 @@
--- What each shape of loop has done to a list after i turns: a map in place, a filter by moving up, a search.
+-- What two shapes of loop have done to a list after i turns: a filter by moving up, a search.
 use Prim.Native.Nat.{ℕ, suc, _+_, _≤_, _<_}
 use mathlib.Core.Path.{_≡_, refl, sym, ap, _∙_}
 use mathlib.Core.Bool.{Bool, true, false, cond, _||_, or-false, or-comm}
-use mathlib.Core.List.{List, [], _∷_, _++_, map, append-assoc, append-nil}
+use mathlib.Core.List.{List, [], _∷_, _++_, append-nil}
 use native.Mathlib.Numerals.{add-one}
-use native.Mathlib.Nat.{add-zero, zero-add, add-suc, suc-add}
+use native.Mathlib.Nat.{add-zero}
 use native.Mathlib.Omega.{arith}
 use lib.ListN.{length, take, drop, getD, set, length-set, drop-of-length-le}
 use lib.Dec.{eqb}
 use borrow.Author.Tests.{eqb-true, eqb-false, ne-eqb}
-use lib.Seq.{getD-set-same, getD-set-other, take-suc, drop-cons, set-at, getD-at, length-take-le, take-all, take-suc-set, drop-set-lt, getD-drop, drop-drop}
-use Rattle.records.specs.Lists.{any, filter, mapFrom}
-
--- ---- a map in place: the first i elements are done
-module _ {A : Type 0} (f : ℕ → A → A) where
-  length-mapFrom : (n : ℕ) (l : List A) → length (mapFrom n f l) ≡ length l
-  length-mapFrom n [] = refl
-  length-mapFrom n (x ∷ xs) = ap suc (length-mapFrom (suc n) xs)
-
-  mapFrom-append : (n : ℕ) (xs ys : List A) → mapFrom n f (xs ++ ys) ≡ mapFrom n f xs ++ mapFrom (n + length xs) f ys
-  mapFrom-append n [] ys = rw add-zero
-  mapFrom-append n (x ∷ xs) ys = rw (mapFrom-append (suc n) xs ys, add-suc, suc-add)
-
-  abbrev pub done : ℕ → List A → List A
-  done i l = mapFrom 0 f (take i l) ++ drop i l
-
-  module _ (i : ℕ) (l : List A) (d : A) (h : i < length l) where
-    front : length (mapFrom 0 f (take i l)) ≡ i
-    front = length-mapFrom 0 (take i l) ∙ length-take-le i l (omega arith)
-
-    opened : done i l ≡ mapFrom 0 f (take i l) ++ (getD l i d ∷ drop (suc i) l)
-    opened = ap (λ (r : List A). mapFrom 0 f (take i l) ++ r) (drop-cons l i d h)
-
-    -- the next element is as it was
-    pub done-next : getD (done i l) i d ≡ getD l i d
-    done-next = rw opened (getD-at (mapFrom 0 f (take i l)) (getD l i d) (drop (suc i) l) d i front)
-
-    pub done-more : set (done i l) i (f i (getD l i d)) ≡ done (i + 1) l
-    done-more =
-        rw (
-          opened,
-          set-at (mapFrom 0 f (take i l)) (getD l i d) (drop (suc i) l) (f i (getD l i d)) i front,
-          add-one,
-          take-suc l i d h,
-          mapFrom-append 0 (take i l) (getD l i d ∷ []),
-          append-assoc,
-          zero-add,
-          length-take-le i l (omega arith),
-        )
-
-  pub done-all : (i : ℕ) (l : List A) → length l ≤ i → done i l ≡ mapFrom 0 f l
-  done-all i l h = rw (take-all i l h, drop-of-length-le l h, append-nil)
-
-pub mapFrom-map : {A : Type 0} (g : A → A) (n : ℕ) (l : List A) → mapFrom n (λ _. g) l ≡ map g l
-mapFrom-map g n [] = refl
-mapFrom-map g n (x ∷ xs) = rw (mapFrom-map g (suc n) xs)
+use lib.Seq.{getD-set-same, getD-set-other, take-suc, drop-cons, take-all, take-suc-set, drop-set-lt, getD-drop, drop-drop}
+use Rattle.records.specs.Lists.{any, filter}
 
 -- ---- a filter by moving up: i elements of l were passed, and those of which p holds stand in the first n places of a
 pub record MovedUp {A : Type 0} (p : A → Bool) (l : List A) (i n : ℕ) (a : List A) : Type 0 where

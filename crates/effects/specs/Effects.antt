@@ -10,7 +10,9 @@ use Rattle.records.specs.declared.Script.{Script}
 use Rattle.records.specs.declared.Draft.{Draft}
 use Rattle.request.specs.declared.Request.{Request}
 use Rattle.request.specs.declared.Request.the-variants.{Enrol, Establish, JoinStaff, LeaveStaff, JoinOutsider, LeaveOutsider, Add, Remove, Import, Merge, Disband, OpenInRoom, OpenInHouse, OpenReadOnly, Read, Update, Create, Kill, TakeBack}
-use Rattle.effects.specs.Elements.{enrolled, leading, joined, left, hired, parted, writing, reading, ended, closed, createdBy, shut, draftOf, placedAt, unplaced}
+use Rattle.sessions.specs.Sessions.{writing, reading, ended}
+use Rattle.sessions.specs.declared.Ending.the-variants.{OfRoom, OfMember, Uncovered}
+use Rattle.effects.specs.Elements.{enrolled, leading, joined, left, inNoRoom, hired, parted, createdBy, shut, draftOf, placedAt, unplaced}
 use Rattle.effects.specs.declared.Change.{Change}
 
 -- ---- "So a draft that loses its last place is deleted, and a script that loses its last draft is deleted."
@@ -29,7 +31,12 @@ swept h = withScripts (withDrafts h (sweptDrafts (h .drafts))) (sweptScripts (sw
 
 -- ---- 04, 06: "w leaves; w's RW sessions of that room end"
 abbrev pub departed : House → ℕ → ℕ → House
-departed h w room = withSessions (putUser h w (left room (user h w))) (map (ended w room) (h .sessions))
+departed h w room = withSessions (putUser h w (left room (user h w))) (map (ended (OfMember w room)) (h .sessions))
+
+-- ---- 05: "w joins"; 02, L4: "When Join outsider sets a label, every session of that user not covered by the new label ends in the same step."
+abbrev pub arrived : House → ℕ → ℕ → ℕ → ℕ → House
+arrived h w room level c =
+    withSessions (putUser h w (joined room (hired level c (user h w)))) (cond (inNoRoom (user h w)) (map (ended (Uncovered w level c)) (h .sessions)) (h .sessions))
 
 -- ---- the draft v of script s made anew, where it is there
 abbrev pub onDraft : House → ℕ → ℕ → (Draft → Draft) → House
@@ -48,7 +55,7 @@ disbanded h room = swept (record {
   users = map (parted room) (h .users);
   rooms = without (h .rooms) room;
   scripts = map (shut room) (h .scripts);
-  sessions = map (closed room) (h .sessions);
+  sessions = map (ended (OfRoom room)) (h .sessions);
   drafts = map (unplaced room) (h .drafts);
 })
 
@@ -58,7 +65,7 @@ effect h n (Enrol u new sort level c admin) = putUser h new (enrolled sort level
 effect h n (Establish u room) = putRooms (putUser h u (leading room (user h u))) (with (h .rooms) room)
 effect h n (JoinStaff u w room) = putUser h w (joined room (user h w))
 effect h n (LeaveStaff u w room) = departed h w room
-effect h n (JoinOutsider u w room level c) = putUser h w (joined room (hired level c (user h w)))
+effect h n (JoinOutsider u w room level c) = arrived h w room level c
 effect h n (LeaveOutsider u w room) = departed h w room
 effect h n (Add u s v room) = onDraft h s v (placedAt room)
 effect h n (Remove u s v room) = removed h s v room

@@ -1,9 +1,9 @@
--- What a granted request makes of one user, session, script or draft. The quoted words are those of 01's column "Granted effect".
+-- What a granted request makes of one user, script or draft; of sessions, crates/sessions/specs/Sessions.antt. The quoted words are those of 01's column "Granted effect".
 use Prim.Native.Nat.{ℕ}
 use mathlib.Core.Bool.{Bool, true, false, cond, _&&_}
 use lib.Dec.{eqb}
 use Rattle.records.specs.Places.{with, without}
-use Rattle.records.specs.House.{noScript, noSession, freelancer, noPlace}
+use Rattle.records.specs.House.{noScript, freelancer}
 use Rattle.records.specs.declared.User.{User}
 use Rattle.records.specs.declared.Script.{Script}
 use Rattle.records.specs.declared.Session.{Session}
@@ -30,13 +30,17 @@ joined room u = withRooms (with (u .rooms) room) (u .leads) u
 abbrev pub left : ℕ → User → User
 left room u = withRooms (without (u .rooms) room) (u .leads) u
 
+-- "if w was in no room"
+abbrev pub inNoRoom : User → Bool
+inNoRoom u = eqb (u .rooms) 0
+
 -- "w is a freelancer; if w was in no room, w's label becomes (level, c), else those fields have no effect"
 abbrev pub hired : ℕ → ℕ → User → User
 hired level c u = record {
   here = u .here;
   sort = freelancer;
-  level = cond (eqb (u .rooms) 0) level (u .level);
-  categories = cond (eqb (u .rooms) 0) c (u .categories);
+  level = cond (inNoRoom u) level (u .level);
+  categories = cond (inNoRoom u) c (u .categories);
   rooms = u .rooms;
   leads = u .leads;
   admin = u .admin;
@@ -45,28 +49,6 @@ hired level c u = record {
 -- "room gone from all members, leads"
 abbrev pub parted : ℕ → User → User
 parted room u = withRooms (without (u .rooms) room) (without (u .leads) room) u
-
--- ---- sessions
--- an RW session of a place, and an RO session, which has none
-abbrev pub writing : ℕ → ℕ → ℕ → ℕ → Session
-writing owner level c place = record { here = true; owner = owner; level = level; categories = c; writes = true; place = place }
-
-abbrev pub reading : ℕ → ℕ → ℕ → Session
-reading owner level c = record { here = true; owner = owner; level = level; categories = c; writes = false; place = noPlace }
-
--- "w's RW sessions of that room end"
-abbrev pub endsFor : ℕ → ℕ → Session → Bool
-endsFor w room s = s .writes && eqb (s .owner) w && eqb (s .place) room
-
-abbrev pub ended : ℕ → ℕ → Session → Session
-ended w room s = cond (endsFor w room s) noSession s
-
--- "its RW sessions gone"
-abbrev pub closes : ℕ → Session → Bool
-closes room s = s .writes && eqb (s .place) room
-
-abbrev pub closed : ℕ → Session → Session
-closed room s = cond (closes room s) noSession s
 
 -- ---- scripts
 -- "script with the session's label and place"

@@ -1,6 +1,5 @@
 // The effect of each granted request on the records: one function a kind of effect, and `apply` over all kinds.
 mod people;
-mod sessions;
 mod texts;
 
 ghost use mathlib.Core.Path.{_≡_};
@@ -14,9 +13,6 @@ pub use people::join_outsider;
 pub use people::leave;
 use records::Cells;
 use request::Request;
-pub use sessions::kill;
-pub use sessions::open_reading;
-pub use sessions::open_writing;
 pub use texts::add_place;
 pub use texts::create;
 pub use texts::new_draft;
@@ -86,19 +82,19 @@ pub fn apply(records: &mut Cells, change: Change)
             room,
             level,
             categories,
-        } => open_writing(records, u, session, level, categories, room),
+        } => sessions::open_writing(records, u, session, level, categories, room),
         Request::OpenInHouse {
             u,
             session,
             level,
             categories,
-        } => open_writing(records, u, session, level, categories, 0),
+        } => sessions::open_writing(records, u, session, level, categories, 0),
         Request::OpenReadOnly {
             u,
             session,
             level,
             categories,
-        } => open_reading(records, u, session, level, categories),
+        } => sessions::open_reading(records, u, session, level, categories),
         Request::Read {
             session: _,
             script: _,
@@ -110,7 +106,7 @@ pub fn apply(records: &mut Cells, change: Change)
             number: _,
         } => update(records, session, script, number),
         Request::Create { session, script } => create(records, session, script, number),
-        Request::Kill { u: _, session } => kill(records, session),
+        Request::Kill { u: _, session } => sessions::kill(records, session),
         Request::TakeBack { u: _ } => {}
     }
 }

@@ -4,14 +4,13 @@ ghost use mathlib.Core.List.{map};
 ghost use Rattle.records.specs.House.{view, user, putUser, putRooms, withUsers};
 ghost use Rattle.records.specs.Places.{with};
 ghost use Rattle.effects.specs.Elements.{enrolled, leading, joined, left, hired, parted};
-ghost use Rattle.effects.specs.Effects.{departed, disbanded};
-use crate::sessions::close_sessions;
-use crate::sessions::end_sessions;
+ghost use Rattle.effects.specs.Effects.{departed, arrived, disbanded};
 use crate::texts::cut_places;
 use crate::texts::shut_scripts;
 use crate::texts::sweep;
 use records::Cells;
 use records::User;
+use sessions::Ending;
 
 // ---- one user
 fn joined(user: User, room: u8) -> User
@@ -99,12 +98,23 @@ pub fn join(records: &mut Cells, w: u8, room: u8)
 }
 
 pub fn join_outsider(records: &mut Cells, w: u8, room: u8, level: u8, categories: u16)
-    ensures { λ _. ⌜ view (now (records .exit)) ≡ putUser (view (now (records .entry))) w (joined room (hired level categories (user (view (now (records .entry))) w))) ⌝ }
+    ensures { λ _. ⌜ view (now (records .exit)) ≡ arrived (view (now (records .entry))) w room level categories ⌝ }
 {
     let i = w as usize;
-    let user = records::user_at(records, i);
-    let freelancer = hired(user, level, categories);
+    let before = records::user_at(records, i);
+    let freelancer = hired(before, level, categories);
     records::put_user(records, i, joined(freelancer, room));
+    if before.rooms != 0 {
+        return; // the label stays, and so do the sessions
+    }
+    sessions::end_sessions(
+        records,
+        Ending::Uncovered {
+            w,
+            level,
+            categories,
+        },
+    );
 }
 
 pub fn leave(records: &mut Cells, w: u8, room: u8)
@@ -113,7 +123,7 @@ pub fn leave(records: &mut Cells, w: u8, room: u8)
     let i = w as usize;
     let user = records::user_at(records, i);
     records::put_user(records, i, left(user, room));
-    end_sessions(records, w, room);
+    sessions::end_sessions(records, Ending::OfMember { w, room });
 }
 
 // ---- a room goes
@@ -137,7 +147,7 @@ pub fn disband(records: &mut Cells, room: u8)
     part_users(records, room);
     cut_places(records, room);
     shut_scripts(records, room);
-    close_sessions(records, room);
+    sessions::end_sessions(records, Ending::OfRoom { room });
     let rooms = records::without(records::rooms(records), room);
     records::put_rooms(records, rooms);
     sweep(records);

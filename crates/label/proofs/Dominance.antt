@@ -1,13 +1,13 @@
 -- Which parts fail is read off the two labels, and what fails both ways says in which parts they differ. Nothing is asked of the labels.
 use mathlib.Core.Path.{_≡_, refl, sym, ap, _∙_}
-use mathlib.Core.Bool.{Bool, true, false, not, cond, _||_}
+use mathlib.Core.Bool.{Bool, true, false, not, cond, _&&_, _||_}
 use mathlib.Core.Logic.{_⊎_, inl, inr}
 use Prim.Native.Nat.{ℕ, _<_}
 use native.Mathlib.Omega.{arith}
-use lib.Dec.{T, eqb, ltb}
+use lib.Dec.{T, eqb, leb, ltb}
 use lib.Bits.{bitAnd}
-use borrow.Author.Tests.{eq-eqb, ne-eqb, eqb-true, eqb-false, ltb-true, ltb-false, lt-ltb, le-ltb, not-true, not-false}
-use Rattle.label.specs.Labels.{isHigh, isLow, contains, none, every, either, nothing, dominates, differs}
+use borrow.Author.Tests.{eq-eqb, ne-eqb, eqb-true, eqb-false, ltb-true, ltb-false, lt-ltb, le-ltb, le-leb, lt-leb, not-true, not-false}
+use Rattle.label.specs.Labels.{isHigh, isLow, contains, none, every, either, nothing, dominates, covers, differs}
 use Rattle.label.specs.declared.Parts.{Parts}
 use Rattle.label.specs.declared.Label.{Label}
 use Rattle.label.specs.declared.Label.the-variants.{High, Low, At}
@@ -27,6 +27,23 @@ module _ (p l c q m d : ℕ) where
   -- "place: differs"
   pub place-fails : (dominates (At p l c) (At q m d) .place ≡ true → p ≡ q → ⊥) × ((p ≡ q → ⊥) → dominates (At p l c) (At q m d) .place ≡ true)
   place-fails = (λ t. eqb-false p q (not-true (eqb p q) t), λ f. ap not (ne-eqb p q f))
+
+-- ---- what covers is no lower in level and lacks no category
+module _ (l c m d : ℕ) where
+  abbrev rest : Bool → Bool → Bool
+  rest low lacks = not (low || lacks || false)
+
+  pub covers-both : covers l c m d ≡ (leb m l && contains c d)
+  covers-both = go (ltb l m) refl (contains c d)
+    where
+      go : (low : Bool) → ltb l m ≡ low → (b : Bool) → rest low (not b) ≡ (leb m l && b)
+      go true e b = rw (lt-leb m l (ltb-true l m e))
+      go false e true = rw (le-leb m l (ltb-false l m e))
+      go false e false = rw (le-leb m l (ltb-false l m e))
+
+  -- whatever the place
+  pub covers-anywhere : (p : ℕ) → nothing (dominates (At p l c) (At p m d)) ≡ covers l c m d
+  covers-anywhere p = rw (eq-eqb p p refl)
 
 -- ---- an end on either side: all three fail, or nothing does
 abbrev pub anEnd : Label → Bool

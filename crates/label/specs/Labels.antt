@@ -57,6 +57,10 @@ dominates a b = cond (isHigh a || isLow b) none (cond (isLow a || isHigh b) ever
 abbrev pub Dominates : Label → Label → Type 0
 Dominates a b = T (nothing (dominates a b))
 
+-- 02, L4: "not covered by the new label": of labels at one place, the first dominates the second
+abbrev pub covers : ℕ → ℕ → ℕ → ℕ → Bool
+covers level c level′ c′ = nothing (dominates (At 0 level c) (At 0 level′ c′))
+
 -- A and B differ in the parts that fail one way or the other
 abbrev pub differs : Label → Label → Parts
 differs a b = either (dominates a b) (dominates b a)

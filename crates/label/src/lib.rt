@@ -1,6 +1,6 @@
 // Labels: what fails where one is to dominate another, the join of two, and a label as a 32-bit number.
 ghost use mathlib.Core.Path.{_≡_};
-ghost use Rattle.label.specs.Labels.{nothing, dominates, differs, join, pack, unpack};
+ghost use Rattle.label.specs.Labels.{nothing, dominates, covers, differs, join, pack, unpack};
 
 // High is SysHigh and Low is SysLow. The fields can hold more than a good label does: dominance, join and packing take whatever they hold.
 pub enum Label {
@@ -171,4 +171,21 @@ impl Label {
             categories,
         })
     }
+}
+
+// A label covers another where it dominates it, places left out.
+pub fn covers(level: u8, categories: u16, l: u8, c: u16) -> bool
+    ensures { λ r. ⌜ r ≡ covers level categories l c ⌝ }
+{
+    let over = Label::At {
+        place: 0,
+        level,
+        categories,
+    };
+    let under = Label::At {
+        place: 0,
+        level: l,
+        categories: c,
+    };
+    over.dominates(under).nothing()
 }

@@ -31,6 +31,7 @@ use Rattle.promises.proofs.Fitting.{taken-fit}
 use Rattle.promises.proofs.Reached.{reached}
 use Rattle.promises.proofs.Back.{back-as-it-stood}
 use Rattle.promises.proofs.Seen.{given-once, live-made}
+use Rattle.promises.proofs.Sight.{sessions-within, reads-within}
 use Rattle.promises.proofs.Demands.{by-the-book, by-the-answers, rising, no-change-left, newest-goes}
 
 -- ---- of any requests that fit their bytes
@@ -44,6 +45,8 @@ of-requests rule h last m qs fit = record {
   back-as-it-stood = λ q rs u c b. back-as-it-stood rule h last qs q rs u c b;
   given-once = given-once rule h last qs;
   live-made = live-made rule h last m qs;
+  sessions-within = sessions-within rule h last m qs fit;
+  reads-within = reads-within rule h last m qs fit;
   meets = reached rule h last m qs fit;
 }
 

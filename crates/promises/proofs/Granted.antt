@@ -24,7 +24,7 @@ factAt (n unless b because d ∷ lines) (suc k) = factAt lines k
 abbrev pub Hold : List Line → Type 0
 Hold lines = (k : ℕ) → factAt lines k ≡ true
 
-each-holds : {lines : List Line} → AllHold lines → Hold lines
+pub each-holds : {lines : List Line} → AllHold lines → Hold lines
 each-holds none k = refl
 each-holds (more e a) zero = e
 each-holds (more e a) (suc k) = each-holds a k

@@ -120,7 +120,9 @@ module _ (rule : Rule) (h : House) (last : ℕ) (R : Rules h last) where
       let l = label-of level c (bytes (u ∷ x ∷ level ∷ [])) (f 2) w in
       let o = opens-of (user h u) level c (f 6) (f 7) in
       open-in-house h last R x (id-of x (f 1)) u level c (f 3) l o (staff-of (user h u) (f 5))
-  next n (OpenReadOnly u x level c) w f = open-read-only h last R x (id-of x (f 1)) u level c (f 3) (label-of level c (bytes (u ∷ x ∷ level ∷ [])) (f 2) w)
+  next n (OpenReadOnly u x level c) w f =
+      let l = label-of level c (bytes (u ∷ x ∷ level ∷ [])) (f 2) w in
+      open-read-only h last R x (id-of x (f 1)) u level c (f 3) l (opens-of (user h u) level c (f 5) (f 6))
   next n (Read x s v) w f = tt
   next n (Update x s v) w f = λ l. update h last R (ltb-true (length (h .drafts)) 256 (f 9)) l x s v (f 4) (f 6)
   next n (Create x s) w f = λ l. create h last R (ltb-true (length (h .drafts)) 256 (f 5)) l x s (id-of s (f 0)) (not-true (script h s .here) (f 3)) (f 4)

@@ -12,11 +12,11 @@ use Rattle.records.specs.House.{noUser, noSession, house, staff}
 use Rattle.records.specs.declared.User.{User}
 use Rattle.records.specs.declared.Session.{Session}
 use Rattle.effects.specs.Elements.{withRooms}
-use Rattle.rules.specs.Facts.{Among, LabelFits, Place, UserFine, Administered, Led, Writing, SessionFine, Seated, Seats}
+use Rattle.rules.specs.Facts.{Among, LabelFits, Place, UserFine, Administered, Led, Writing, Within, SessionFine, Seated, Seats}
 use Rattle.rules.proofs.Bools.{clash}
 use Rattle.rules.proofs.Lists.{at-set, at-map}
 use Rattle.rules.proofs.Sets.{with-new, with-old, with-other, room-number}
-use Rattle.rules.proofs.Meaning.{zero-fits}
+use Rattle.rules.proofs.Meaning.{zero-fits, none-within}
 
 -- ---- places
 pub place-house : (rooms : ℕ) → Place rooms house
@@ -73,6 +73,7 @@ none-seated rooms o = record {
   absent = λ _. refl;
   label = zero-fits;
   owner-there = λ k. clash k refl;
+  within = none-within (o .level) (o .categories);
   writing = λ k. clash k refl;
   reading = λ k _. clash k refl;
 }
@@ -82,26 +83,24 @@ pub record Stays (rooms rooms′ : ℕ) (o o′ : User) (p : ℕ) : Type 0 where
   pub there : has rooms p ≡ true → has rooms′ p ≡ true
   pub is-staff : o .sort ≡ staff → o′ .sort ≡ staff
   pub member : has (o .rooms) p ≡ true → has (o′ .rooms) p ≡ true
-  pub same-level : o′ .level ≡ o .level
-  pub same-categories : o′ .categories ≡ o .categories
 
 -- an owner of whom only the rooms joined and led are new
 pub stays : (rooms rooms′ : ℕ) (o : User) (joined led p : ℕ) → (has rooms p ≡ true → has rooms′ p ≡ true) → (has (o .rooms) p ≡ true → has joined p ≡ true)
     → Stays rooms rooms′ o (withRooms joined led o) p
-stays rooms rooms′ o joined led p f g = record { there = f; is-staff = λ k. k; member = g; same-level = refl; same-categories = refl }
+stays rooms rooms′ o joined led p f g = record { there = f; is-staff = λ k. k; member = g }
 
 pub session-stays : (rooms rooms′ : ℕ) (o o′ : User) (x : Session) → (o .here ≡ true → o′ .here ≡ true)
+    → (Within (o .level) (o .categories) x → Within (o′ .level) (o′ .categories) x)
     → (x .writes ≡ true → Writing rooms o x → Stays rooms rooms′ o o′ (x .place)) → SessionFine rooms o x → SessionFine rooms′ o′ x
-session-stays rooms rooms′ o o′ x there move f = record {
+session-stays rooms rooms′ o o′ x there within move f = record {
   absent = f .absent;
   label = f .label;
   owner-there = λ k. there (f .owner-there k);
+  within = within (f .within);
   writing = λ k. let w = f .writing k in let s = move k w in record {
     place-there = place-move rooms rooms′ (x .place) (s .there) (w .place-there);
     house-staff = λ e. s .is-staff (w .house-staff e);
     room-member = λ n. s .member (w .room-member n);
-    level-within = rw (s .same-level) (w .level-within);
-    categories-within = rw (s .same-categories) (w .categories-within);
   };
   reading = f .reading;
 }
@@ -112,7 +111,7 @@ seats-more rooms rooms′ more us xs S = record {
   each = λ i.
       let x = getD xs i noSession in
       let o = getD us (x .owner) noUser in
-      session-stays rooms rooms′ o o x (λ k. k) (λ _ _. stays rooms rooms′ o (o .rooms) (o .leads) (x .place) (more (x .place)) (λ k. k)) (S .each i);
+      session-stays rooms rooms′ o o x (λ k. k) (λ k. k) (λ _ _. stays rooms rooms′ o (o .rooms) (o .leads) (x .place) (more (x .place)) (λ k. k)) (S .each i);
 }
 
 -- one user anew

@@ -27,20 +27,20 @@ use Rattle.promises.proofs.Kept.{kept, kept-numbered, later}
 use Rattle.promises.proofs.Past.{last-after, Sound, sound-opened, now-holds, sound-keep, sound-back}
 use Rattle.promises.proofs.Ways.{Way, by-rule, no-number, no-change, read, plain, with-number, back, way}
 
-abbrev Meets : ℕ → House → Type 0
+abbrev pub Meets : ℕ → House → Type 0
 Meets last h = rules h last ≡ true
 
-abbrev Fine : Rule → Desk House Change → Type 0
+abbrev pub Fine : Rule → Desk House Change → Type 0
 Fine rule d = Sound (deskRules rule) (Meets (d .last)) d
 
 module _ (rule : Rule) (d : Desk House Change) (S : Fine rule d) where
-  meets : rules (d .current) (d .last) ≡ true
+  pub meets : rules (d .current) (d .last) ≡ true
   meets = now-holds (deskRules rule) (Meets (d .last)) d S
 
   below-top : d .last ≤ top
   below-top = rules-are (d .current) (d .last) .says meets .counter
 
-  steps : (q : Request) → fits q ≡ true → Fine rule (step (deskRules rule) d q .desk)
+  pub steps : (q : Request) → fits q ≡ true → Fine rule (step (deskRules rule) d q .desk)
   unfolding applied
   steps q w = go (way rule d q)
     where

@@ -17,7 +17,9 @@ use Rattle.records.specs.declared.Draft.{Draft}
 use Rattle.records.specs.declared.Found.{Found}
 use Rattle.records.specs.declared.Found.the-variants.{At, Nothing}
 use Rattle.records.proofs.Places.{without-zero, without-only}
-use Rattle.effects.specs.Elements.{parted, closes, shuts, shut, unplaced}
+use Rattle.sessions.specs.Sessions.{ends}
+use Rattle.sessions.specs.declared.Ending.the-variants.{OfRoom}
+use Rattle.effects.specs.Elements.{parted, shuts, shut, unplaced}
 use Rattle.effects.specs.Effects.{sweptDrafts, deserted, sweptScripts, swept, lessOne, removed, disbanded}
 use Rattle.rules.specs.Facts.{RoomNumber, UserFine, People, SessionFine, Seated, HousePlaces, with-house, one-room, DraftFine, Filed, ScriptFine, Ascending, Texts, Rules}
 use Rattle.rules.specs.Lists.{Each}
@@ -192,9 +194,9 @@ module _ (room : ℕ) (number : RoomNumber room) where
     }
 
     -- an RW session of another place stays
-    seated : (x : Session) → closes room x ≡ false → Seated (h .rooms) (h .users) x → Seated (without (h .rooms) room) (map (parted room) (h .users)) x
+    seated : (x : Session) → ends (OfRoom room) x ≡ false → Seated (h .rooms) (h .users) x → Seated (without (h .rooms) room) (map (parted room) (h .users)) x
     seated x t f = subst (λ (o : User). SessionFine (without (h .rooms) room) o x) (sym (user-at (x .owner)))
-        (session-stays (h .rooms) (without (h .rooms) room) o (parted room o) x (λ k. k)
+        (session-stays (h .rooms) (without (h .rooms) room) o (parted room o) x (λ k. k) (λ k. k)
         (λ w _. stays (h .rooms) (without (h .rooms) room) o (without (o .rooms) room) (without (o .leads) room) (x .place)
         (λ k. without-other (h .rooms) room low (x .place) (elsewhere w) ∙ k) (λ k. without-other (o .rooms) room low (x .place) (elsewhere w) ∙ k)) f)
       where
@@ -244,7 +246,7 @@ module _ (room : ℕ) (number : RoomNumber room) where
     pub disband : Rules (disbanded h room) last
     disband = record {
       people = people;
-      seats = seats-end (h .rooms) (without (h .rooms) room) (h .users) (map (parted room) (h .users)) (closes room) seated (h .sessions) (R .seats);
+      seats = seats-end (h .rooms) (without (h .rooms) room) (h .users) (map (parted room) (h .users)) (ends (OfRoom room)) seated (h .sessions) (R .seats);
       texts = sweep (without (h .rooms) room) last (map (shut room) (h .scripts)) (map (unplaced room) (h .drafts)) (record {
         size = length-map (h .scripts) (shut room) ∙ R .texts .size;
         each = λ i. rw (script-at i) (script-shut (script h i) (R .texts .each i) (shuts room (script h i)) refl);

@@ -1,24 +1,28 @@
 -- One user anew: Enrol, Establish, Join and Leave keep the record rules.
 use Prim.Native.Nat.{ℕ, _≤_, _<_}
 use mathlib.Core.Path.{_≡_, refl, sym, ap, _∙_, subst}
-use mathlib.Core.Bool.{Bool, true, false, cond}
-use mathlib.Core.List.{List}
+use mathlib.Core.Bool.{Bool, true, false, cond, not}
+use mathlib.Core.List.{List, map}
 use mathlib.Core.Logic.{_⊎_, inl, inr}
 use native.Mathlib.Omega.{arith}
 use native.Mathlib.Decide.{ℕ-discrete, decLe}
 use lib.Dec.{eqb}
 use lib.ListN.{length, getD, set, length-set, List·getD-eq-default}
-use borrow.Author.Tests.{eq-eqb, ne-eqb}
+use borrow.Author.Tests.{eq-eqb, not-false}
 use Rattle.records.specs.Places.{has, with, without}
-use Rattle.records.specs.House.{House, noUser, staff, outsider, user, putUser, putRooms}
+use Rattle.records.specs.House.{House, noUser, noSession, staff, outsider, user, putUser, putRooms}
 use Rattle.records.specs.declared.User.{User}
 use Rattle.records.specs.declared.Session.{Session}
 use Rattle.records.proofs.Places.{has-none, without-zero}
-use Rattle.effects.specs.Elements.{enrolled, leading, joined, left, hired, endsFor}
-use Rattle.effects.specs.Effects.{departed}
-use Rattle.rules.specs.Facts.{Among, RoomNumber, LabelFits, UserFine, Administered, Led, People, Writing, SessionFine, Seated, Rules}
+use Rattle.label.specs.Labels.{covers}
+use Rattle.sessions.specs.Sessions.{ends, ended}
+use Rattle.sessions.specs.declared.Ending.the-variants.{OfMember, Uncovered}
+use Rattle.effects.specs.Elements.{enrolled, leading, joined, left, inNoRoom, hired}
+use Rattle.effects.specs.Effects.{departed, arrived}
+use Rattle.rules.specs.Facts.{Among, RoomNumber, LabelFits, UserFine, Administered, Led, People, Writing, Within, SessionFine, Seated, Seats, Rules}
 use Rattle.rules.proofs.Bools.{clash}
 use Rattle.rules.proofs.Lists.{at-set}
+use Rattle.rules.proofs.Meaning.{within-is, none-within}
 use Rattle.rules.proofs.Sets.{some, with-new, with-old, with-other, with-among, without-other, without-among, number-room}
 use Rattle.promises.proofs.Parts.{led-move, admin-move, user-more, Stays, stays, session-stays, seats-more, seated-put, seats-put, seats-end}
 use Rattle.promises.proofs.Drafts.{texts-more}
@@ -93,7 +97,9 @@ module _ (h : House) (last : ℕ) (R : Rules h last) where
       -- nobody owned a session under that number
       nobody : (x : Session) → SessionFine (h .rooms) (user h new) x → (b : Bool) → x .here ≡ b → SessionFine (h .rooms) v x
       nobody x f true k = clash (f .owner-there k) free
-      nobody x f false k = session-stays (h .rooms) (h .rooms) (user h new) v x (λ _. refl) (λ w _. clash w (ap (λ (y : Session). y .writes) (f .absent k))) f
+      nobody x f false k =
+          session-stays (h .rooms) (h .rooms) (user h new) v x (λ _. refl) (λ _. subst (Within level c) (sym (f .absent k)) (none-within level c))
+          (λ w _. clash w (ap (λ (y : Session). y .writes) (f .absent k))) f
 
   -- ---- a user who is there, anew
   module _ (w : ℕ) (v : User) (hw : user h w .here ≡ true) (hv : v .here ≡ true) where
@@ -104,15 +110,19 @@ module _ (h : House) (last : ℕ) (R : Rules h last) where
     anew f l a = put-people (h .users) w v fits (h .rooms) f l (put-admin (h .users) w v fits hv a (R .people .administered w hw)) (R .people)
 
     -- whose sessions stay
-    keeps : UserFine (h .rooms) v → v .leads ≡ user h w .leads → (user h w .admin ≡ true → v .admin ≡ true)
-        → ((x : Session) → Writing (h .rooms) (user h w) x → Stays (h .rooms) (h .rooms) (user h w) v (x .place)) → Rules (putUser h w v) last
-    keeps f l a s = record {
-      people = anew f l a;
-      seats = seats-put (h .rooms) (h .users) w v fits (h .sessions)
-          (λ x _. session-stays (h .rooms) (h .rooms) (user h w) v x (λ _. hv) (λ _. s x)) (R .seats);
-      texts = R .texts;
-      counter = R .counter;
-    }
+    keeps : ((x : Session) → Within (user h w .level) (user h w .categories) x → Within (v .level) (v .categories) x)
+        → ((x : Session) → Stays (h .rooms) (h .rooms) (user h w) v (x .place)) → Seats (h .rooms) (set (h .users) w v) (h .sessions)
+    keeps i s = seats-put (h .rooms) (h .users) w v fits (h .sessions) (λ x _. session-stays (h .rooms) (h .rooms) (user h w) v x (λ _. hv) (i x) (λ _ _. s x)) (R .seats)
+
+    -- whose sessions end where t holds
+    ending : (t : Session → Bool)
+        → ((x : Session) → t x ≡ false → x .owner ≡ w → Within (user h w .level) (user h w .categories) x → Within (v .level) (v .categories) x)
+        → ((x : Session) → t x ≡ false → x .owner ≡ w → x .writes ≡ true → Stays (h .rooms) (h .rooms) (user h w) v (x .place))
+        → Seats (h .rooms) (set (h .users) w v) (map (λ x. cond (t x) noSession x) (h .sessions))
+    ending t i s =
+        seats-end (h .rooms) (h .rooms) (h .users) (set (h .users) w v) t
+        (λ x k. seated-put (h .rooms) (h .users) w v fits x (λ e. session-stays (h .rooms) (h .rooms) (user h w) v x (λ _. hv) (i x k e) (λ k′ _. s x k e k′)))
+        (h .sessions) (R .seats)
 
   module _ (w room : ℕ) (number : RoomNumber room) (hw : user h w .here ≡ true) where
     small : room ≤ 31
@@ -120,7 +130,12 @@ module _ (h : House) (last : ℕ) (R : Rules h last) where
 
     -- ---- 03 Join staff
     pub join-staff : has (h .rooms) room ≡ true → user h w .sort ≡ staff → Rules (putUser h w (joined room (user h w))) last
-    join-staff there is-staff = keeps w (joined room (user h w)) hw hw fine refl (λ k. k) (λ x _. remains x)
+    join-staff there is-staff = record {
+      people = anew w (joined room (user h w)) hw hw fine refl (λ k. k);
+      seats = keeps w (joined room (user h w)) hw hw (λ _ k. k) remains;
+      texts = R .texts;
+      counter = R .counter;
+    }
       where
         fine : UserFine (h .rooms) (joined room (user h w))
         fine = let f = R .people .each w in record {
@@ -140,9 +155,13 @@ module _ (h : House) (last : ℕ) (R : Rules h last) where
             stays (h .rooms) (h .rooms) u (with (u .rooms) room) (u .leads) (x .place) (λ k. k) (with-old (u .rooms) room small (x .place))
 
     -- ---- 05 Join outsider
-    pub join-outsider : (level c : ℕ) → has (h .rooms) room ≡ true → (user h w .sort ≡ staff → ⊥) → LabelFits level c
-        → Rules (putUser h w (joined room (hired level c (user h w)))) last
-    join-outsider level c there other label = keeps w v hw hw fine refl (λ k. k) remains
+    pub join-outsider : (level c : ℕ) → has (h .rooms) room ≡ true → (user h w .sort ≡ staff → ⊥) → LabelFits level c → Rules (arrived h w room level c) last
+    join-outsider level c there other label = record {
+      people = anew w v hw hw fine refl (λ k. k);
+      seats = seats (inNoRoom (user h w)) refl;
+      texts = R .texts;
+      counter = R .counter;
+    }
       where
         v : User
         v = joined room (hired level c (user h w))
@@ -155,7 +174,7 @@ module _ (h : House) (last : ℕ) (R : Rules h last) where
         fine = let f = R .people .each w in record {
           absent = λ k. clash hw k;
           sort-known = omega arith;
-          label = labelled (eqb (user h w .rooms) 0);
+          label = labelled (inNoRoom (user h w));
           joined-there = with-among (user h w .rooms) room small (h .rooms) there (f .joined-there);
           led-there = f .led-there;
           admin-staff = λ k. absurd (other (f .admin-staff k));
@@ -163,24 +182,27 @@ module _ (h : House) (last : ℕ) (R : Rules h last) where
           outsider-bare = λ e. absurd (omega arith);
         }
 
-        -- no staff, so an RW session is in a room that w joined, and the label stays
-        remains : (x : Session) → Writing (h .rooms) (user h w) x → Stays (h .rooms) (h .rooms) (user h w) v (x .place)
-        remains x f =
-            let in-room : has (user h w .rooms) (x .place) ≡ true = f .room-member (λ e. other (f .house-staff e)) in
-            let joined-some : eqb (user h w .rooms) 0 ≡ false = ne-eqb (user h w .rooms) 0 (some (user h w .rooms) (x .place) in-room) in
-            record {
-              there = λ k. k;
-              is-staff = λ e. absurd (other e);
-              member = with-old (user h w .rooms) room small (x .place);
-              same-level = rw joined-some;
-              same-categories = rw joined-some;
-            }
+        -- w was no staff, and stays in each room joined
+        remains : (x : Session) → Stays (h .rooms) (h .rooms) (user h w) v (x .place)
+        remains x = record { there = λ k. k; is-staff = λ e. absurd (other e); member = with-old (user h w .rooms) room small (x .place) }
+
+        -- a session of w that does not end is within the new label
+        covered : (x : Session) → ends (Uncovered w level c) x ≡ false → x .owner ≡ w → Within level c x
+        covered x k e = within-is level c x .says (go (covers level c (x .level) (x .categories)) (rw (eq-eqb (x .owner) w e) at k))
+          where
+            go : (b : Bool) → not b ≡ false → b ≡ true
+            go b = not-false b
+
+        seats : (b : Bool) → inNoRoom (user h w) ≡ b
+            → Seats (h .rooms) (set (h .users) w v) (cond b (map (ended (Uncovered w level c)) (h .sessions)) (h .sessions))
+        seats true q = ending w v hw hw (ends (Uncovered w level c)) (λ x k e _. rw q (covered x k e)) (λ x _ _ _. remains x)
+        seats false q = keeps w v hw hw (λ x i. rw q i) remains
 
     -- ---- 04, 06 Leave
     pub leave : Rules (departed h w room) last
     leave = record {
       people = anew w v hw hw fine refl (λ k. k);
-      seats = seats-end (h .rooms) (h .rooms) (h .users) (set (h .users) w v) (endsFor w room) remains (h .sessions) (R .seats);
+      seats = ending w v hw hw (ends (OfMember w room)) (λ _ _ _ i. i) remains;
       texts = R .texts;
       counter = R .counter;
     }
@@ -204,16 +226,14 @@ module _ (h : House) (last : ℕ) (R : Rules h last) where
           };
         }
 
-        elsewhere : (x : Session) → endsFor w room x ≡ false → x .owner ≡ w → x .writes ≡ true → x .place ≡ room → ⊥
+        elsewhere : (x : Session) → ends (OfMember w room) x ≡ false → x .owner ≡ w → x .writes ≡ true → x .place ≡ room → ⊥
         elsewhere x t e k p = clash (rw (k, eq-eqb (x .owner) w e, eq-eqb (x .place) room p)) t
 
-        remains : (x : Session) → endsFor w room x ≡ false → Seated (h .rooms) (h .users) x → Seated (h .rooms) (set (h .users) w v) x
-        remains x t =
+        remains : (x : Session) → ends (OfMember w room) x ≡ false → x .owner ≡ w → x .writes ≡ true → Stays (h .rooms) (h .rooms) (user h w) v (x .place)
+        remains x t e k =
             let u = user h w in
-            seated-put (h .rooms) (h .users) w v (here-fits (h .users) w hw) x
-            (λ e. session-stays (h .rooms) (h .rooms) u v x (λ _. hw)
-            (λ k _. stays (h .rooms) (h .rooms) u (without (u .rooms) room) (u .leads) (x .place) (λ q. q)
-            (λ q. without-other (u .rooms) room small (x .place) (elsewhere x t e k) ∙ q)))
+            stays (h .rooms) (h .rooms) u (without (u .rooms) room) (u .leads) (x .place) (λ q. q)
+            (λ q. without-other (u .rooms) room small (x .place) (elsewhere x t e k) ∙ q)
 
   -- ---- 02 Establish
   pub establish : (u room : ℕ) → RoomNumber room → user h u .here ≡ true → has (h .rooms) room ≡ false → user h u .admin ≡ true
@@ -226,7 +246,7 @@ module _ (h : House) (last : ℕ) (R : Rules h last) where
       administered = λ i k. put-admin (h .users) u v fits′ hu (λ a. a) (R .people .administered u hu);
       led = λ r k. led r k (ℕ-discrete r room);
     };
-    seats = seats-put rooms′ (h .users) u v fits′ (h .sessions) (λ x _. session-stays rooms′ rooms′ (user h u) v x (λ k. k) (λ _ _. remains x))
+    seats = seats-put rooms′ (h .users) u v fits′ (h .sessions) (λ x _. session-stays rooms′ rooms′ (user h u) v x (λ k. k) (λ k. k) (λ _ _. remains x))
         (seats-more (h .rooms) rooms′ more (h .users) (h .sessions) (R .seats));
     texts = texts-more (h .rooms) rooms′ more last (h .scripts) (h .drafts) (R .texts);
     counter = R .counter;

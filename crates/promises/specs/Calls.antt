@@ -7,7 +7,7 @@ use mathlib.Core.List.{List, [], _∷_, _++_, foldl}
 use lib.ListN.{length}
 use Rattle.request.specs.Bytes.{Bytes}
 use Rattle.request.specs.declared.Request.{Request}
-use Rattle.request.specs.declared.Request.the-variants.{TakeBack}
+use Rattle.request.specs.declared.Request.the-variants.{Read, TakeBack}
 use Rattle.records.specs.House.{House}
 use Rattle.records.specs.declared.Rule.{Rule}
 use Rattle.effects.specs.Effects.{applied}
@@ -22,7 +22,9 @@ use Rattle.rules.specs.Lists.{Each}
 use Rattle.promises.specs.Book.{blank, bookAfter, numbers, Rising, events, survive}
 use Rattle.promises.specs.Events.{eventOf, answersFrom, keptNow}
 use Rattle.promises.specs.Back.{IsChange, TakenBack, ThenBack, AsItStood, atLast}
-use Rattle.promises.specs.Seen.{answerAt, moment, MadeBefore}
+use Rattle.promises.specs.Seen.{requestNo, answerAt, moment, MadeBefore}
+use Rattle.promises.specs.Sight.{SessionWithin, ReadWithin}
+use Rattle.promises.specs.Grants.{grants}
 use Rattle.rules.specs.Rules.{rules}
 
 -- a call of the batch: what it was lent, what it returned and how it left the answer buffer
@@ -66,5 +68,8 @@ pub record Promised (rule : Rule) (h : House) (last : ℕ) (qs : List Request) (
   -- the opening, and then no request gets it
   pub given-once : (i j v : ℕ) → answerAt (answersFrom rule h last qs) i ≡ Answer.Numbered v → answerAt (answersFrom rule h last qs) j ≡ Answer.Numbered v → i ≡ j
   pub live-made : (k : ℕ) → Each (MadeBefore rule h last qs k) (moment rule h last qs k .drafts)
+  -- 02, L4: "every session is within its owner's label at all times", and a granted Read reads a script within the label that the session's owner has then
+  pub sessions-within : (k x : ℕ) → SessionWithin (moment rule h last qs k) x
+  pub reads-within : (k x s v : ℕ) → requestNo qs k ≡ Read x s v → grants (answerAt (answersFrom rule h last qs) k) ≡ true → ReadWithin (moment rule h last qs k) x s
   -- "Every desk reached from an opening meets these record rules"
   pub meets : rules (d .current) (d .last) ≡ true

@@ -5,6 +5,7 @@ pub mod Events
 pub mod Grants
 pub mod Back
 pub mod Seen
+pub mod Sight
 pub mod Calls
 pub mod Restart
 pub mod Amended

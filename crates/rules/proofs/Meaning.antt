@@ -5,10 +5,11 @@ use mathlib.Core.Bool.{Bool, true, false, not, _&&_, _||_}
 use mathlib.Core.List.{List, [], _∷_}
 use native.Mathlib.Omega.{arith}
 use native.Mathlib.Decide.{ℕ-discrete}
-use lib.Dec.{eqb}
+use lib.Dec.{eqb, leb}
 use borrow.Author.Tests.{ne-eqb}
 use lib.ListN.{length}
-use Rattle.label.specs.Labels.{contains}
+use Rattle.label.specs.Labels.{contains, covers}
+use Rattle.label.proofs.Dominance.{covers-both}
 use Rattle.records.specs.Lists.{any, all}
 use Rattle.records.specs.Places.{has, with, only, roomNumbers}
 use Rattle.records.specs.House.{House, noUser, noScript, noSession, house, noPlace, staff, outsider, user, script, session}
@@ -17,9 +18,9 @@ use Rattle.records.specs.declared.User.{User}
 use Rattle.records.specs.declared.Script.{Script}
 use Rattle.records.specs.declared.Session.{Session}
 use Rattle.records.specs.declared.Draft.{Draft}
-use Rattle.records.proofs.Places.{has-none, has-with}
-use Rattle.rules.specs.Rules.{_implies_, isPlace, places, roomsThere, sessionThere, originThere, draftThere, administered, staffIfTrusted, ledByOne, bareIfOutsider, ownedWell, inItsRoom, atHomeOrOneRoom, hasDraft, ascending, labelFits, userFits, scriptFits, sessionFits, bounded, namedThere, rules}
-use Rattle.rules.specs.Facts.{Is, Among, RoomNumber, SomeRoom, LabelFits, Place, Bare, Administered, Led, HousePlaces, with-house, one-room, Filed, Ascending, Rules}
+use Rattle.records.proofs.Places.{has-none, has-with, has-contains}
+use Rattle.rules.specs.Rules.{_implies_, isPlace, places, roomsThere, sessionThere, originThere, draftThere, administered, staffIfTrusted, ledByOne, bareIfOutsider, ownedWell, within, inItsRoom, atHomeOrOneRoom, hasDraft, ascending, labelFits, userFits, scriptFits, sessionFits, bounded, namedThere, rules}
+use Rattle.rules.specs.Facts.{Is, Among, RoomNumber, SomeRoom, LabelFits, Place, Bare, Administered, Led, Within, HousePlaces, with-house, one-room, Filed, Ascending, Rules}
 use Rattle.rules.specs.Lists.{Each}
 use Rattle.rules.proofs.Bools.{clash, second, left, right, itself, fails, equal, unequal, less, atMost, said, _and_, _else_, _then_}
 use Rattle.rules.proofs.Lists.{each-imp, each-both, each-is, everywhere, places-are, Somewhere, somewhere, once}
@@ -130,11 +131,29 @@ session-there : (h : House) (x : Session) → Is (sessionThere h x) (SessionTher
 session-there h x = itself then (itself and (itself then place-is h (x .place)))
 
 abbrev Owned : User → Session → Type 0
-Owned o x = (((x .place ≡ house → o .sort ≡ staff) × ((x .place ≡ house → ⊥) → has (o .rooms) (x .place) ≡ true)) × (x .level ≤ o .level))
-    × (contains (o .categories) (x .categories) ≡ true)
+Owned o x = (x .place ≡ house → o .sort ≡ staff) × ((x .place ≡ house → ⊥) → has (o .rooms) (x .place) ≡ true)
 
 owned-is : (o : User) (x : Session) → Is (x .writes implies ownedWell o x) (x .writes ≡ true → Owned o x)
-owned-is o x = itself then ((equal then equal) and (unequal then itself) and atMost and itself)
+owned-is o x = itself then ((equal then equal) and (unequal then itself))
+
+-- covered by a label, x is within it
+pub within-is : (level c : ℕ) (x : Session) → Is (covers level c (x .level) (x .categories)) (Within level c x)
+within-is level c x =
+    let both = covers-both level c (x .level) (x .categories) in
+    let is : Is (leb (x .level) level && contains c (x .categories)) ((x .level ≤ level) × (contains c (x .categories) ≡ true)) = atMost and itself in
+    record {
+      says = λ e. let p = is .says (sym both ∙ e) in record { level-within = p .0; categories-within = p .1 };
+      shown = λ w. both ∙ is .shown (w .level-within, w .categories-within);
+    }
+
+pub none-within : (level c : ℕ) → Within level c noSession
+none-within level c = record { level-within = omega arith; categories-within = has-contains c 0 (λ q k. clash k (has-none q)) }
+
+abbrev OwnerCovers : House → Session → Type 0
+OwnerCovers h x = let o = user h (x .owner) in Within (o .level) (o .categories) x
+
+owner-covers : (h : House) (x : Session) → Is (within (user h (x .owner)) x) (OwnerCovers h x)
+owner-covers h x = let o = user h (x .owner) in within-is (o .level) (o .categories) x
 
 abbrev ScriptFits : Script → Type 0
 ScriptFits s = LabelFits (s .level) (s .categories) × (s .here ≡ false → s ≡ noScript)
@@ -253,6 +272,7 @@ record Told (h : House) (last : ℕ) : Type 0 where
   one-lead : (r : ℕ) → RoomNumber r → has (h .rooms) r ≡ true → Led (h .users) r
   bare : (i : ℕ) → OutsiderBare (user h i)
   owned : (i : ℕ) → session h i .writes ≡ true → Owned (user h (session h i .owner)) (session h i)
+  inside : (i : ℕ) → OwnerCovers h (session h i)
   room-drafts : Each (RoomDraft h) (h .drafts)
   house-drafts : Each (HouseDraft h) (h .drafts)
   each-drafted : (i : ℕ) → script h i .here ≡ true → any (ofScript i) (h .drafts) ≡ true
@@ -268,6 +288,7 @@ told-is h last = said
     and everywhere noUser bareIfOutsider OutsiderBare outsider-is (λ e. absurd (omega (arith, e))) (h .users)
     and everywhere noSession (λ s. s .writes implies ownedWell (user h (s .owner)) s) (λ s. s .writes ≡ true → Owned (user h (s .owner)) s)
     (λ s. owned-is (user h (s .owner)) s) (λ k. clash k refl) (h .sessions)
+    and everywhere noSession (λ s. within (user h (s .owner)) s) (OwnerCovers h) (owner-covers h) (none-within (user h 0 .level) (user h 0 .categories)) (h .sessions)
     and each-is (inItsRoom h) (RoomDraft h)
     (λ d. unequal then equal) (h .drafts)
     and each-is (atHomeOrOneRoom h) (HouseDraft h) (λ d. equal then house-is (d .places)) (h .drafts)
@@ -276,13 +297,14 @@ told-is h last = said
     and each-is _ (λ d. d .places ≡ 0 → ⊥) (λ d. unequal) (h .drafts)
     and ascending-is _ last (h .drafts))
     (λ t. record {
-      bounds = t .0 .0 .0 .0 .0 .0 .0 .0 .0 .0 .0;
-      named = t .0 .0 .0 .0 .0 .0 .0 .0 .0 .0 .1;
-      ruled = t .0 .0 .0 .0 .0 .0 .0 .0 .0 .1;
-      staff-only = t .0 .0 .0 .0 .0 .0 .0 .0 .1;
-      one-lead = t .0 .0 .0 .0 .0 .0 .0 .1;
-      bare = t .0 .0 .0 .0 .0 .0 .1;
-      owned = t .0 .0 .0 .0 .0 .1;
+      bounds = t .0 .0 .0 .0 .0 .0 .0 .0 .0 .0 .0 .0;
+      named = t .0 .0 .0 .0 .0 .0 .0 .0 .0 .0 .0 .1;
+      ruled = t .0 .0 .0 .0 .0 .0 .0 .0 .0 .0 .1;
+      staff-only = t .0 .0 .0 .0 .0 .0 .0 .0 .0 .1;
+      one-lead = t .0 .0 .0 .0 .0 .0 .0 .0 .1;
+      bare = t .0 .0 .0 .0 .0 .0 .0 .1;
+      owned = t .0 .0 .0 .0 .0 .0 .1;
+      inside = t .0 .0 .0 .0 .0 .1;
       room-drafts = t .0 .0 .0 .0 .1;
       house-drafts = t .0 .0 .0 .1;
       each-drafted = t .0 .0 .1;
@@ -292,7 +314,7 @@ told-is h last = said
     (λ t. (
       (
         (
-          ((((((((t .bounds, t .named), t .ruled), t .staff-only), t .one-lead), t .bare), t .owned), t .room-drafts), t .house-drafts),
+          (((((((((t .bounds, t .named), t .ruled), t .staff-only), t .one-lead), t .bare), t .owned), t .inside), t .room-drafts), t .house-drafts),
           t .each-drafted,
         ),
         t .each-placed,
@@ -342,11 +364,10 @@ module _ (h : House) (last : ℕ) where
             owner-there = λ k. n .by-sessions i k .0;
             writing = λ w. record {
               place-there = n .by-sessions i (writer (session h i) (b .sessions-fit i .1) w) .1 w;
-              house-staff = t .owned i w .0 .0 .0;
-              room-member = t .owned i w .0 .0 .1;
-              level-within = t .owned i w .0 .1;
-              categories-within = t .owned i w .1;
+              house-staff = t .owned i w .0;
+              room-member = t .owned i w .1;
             };
+            within = t .inside i;
             reading = b .sessions-fit i .0 .1;
           };
         };
@@ -389,7 +410,8 @@ module _ (h : House) (last : ℕ) where
         staff-only = λ i. (u i .admin-staff, u i .lead-staff);
         one-lead = λ r _. R .people .led r;
         bare = λ i. u i .outsider-bare;
-        owned = λ i w. (((x i .writing w .house-staff, x i .writing w .room-member), x i .writing w .level-within), x i .writing w .categories-within);
+        owned = λ i w. (x i .writing w .house-staff, x i .writing w .room-member);
+        inside = λ i. x i .within;
         room-drafts = each-imp Fine (RoomDraft h) (h .drafts) (λ d f. f .room-script) d;
         house-drafts = each-imp Fine (HouseDraft h) (h .drafts) (λ d f. f .house-script) d;
         each-drafted = R .texts .drafted;

@@ -15,7 +15,7 @@ use Rattle.records.specs.declared.Session.{Session}
 use Rattle.records.specs.declared.Script.{Script}
 use Rattle.records.specs.declared.Draft.{Draft}
 use Rattle.rules.specs.Facts.{Is}
-use Rattle.rules.specs.Rules.{_implies_, userFits, roomsThere, staffIfTrusted, bareIfOutsider, sessionFits, sessionThere, ownedWell, scriptFits, originThere, draftThere, inItsRoom, atHomeOrOneRoom, administered, staffOnly, oneLead, outsidersBare, sessionsOwned, roomDrafts, houseDrafts, eachDrafted, eachPlaced, numbersRise, rules}
+use Rattle.rules.specs.Rules.{_implies_, userFits, roomsThere, staffIfTrusted, bareIfOutsider, sessionFits, sessionThere, ownedWell, within, scriptFits, originThere, draftThere, inItsRoom, atHomeOrOneRoom, administered, staffOnly, oneLead, outsidersBare, sessionsOwned, sessionsWithin, roomDrafts, houseDrafts, eachDrafted, eachPlaced, numbersRise, rules}
 use Rattle.rules.specs.Walks.{userKeeps, sessionKeeps, scriptKeeps, draftKeeps}
 use Rattle.rules.proofs.Bools.{itself, said, _and_}
 use Rattle.rules.proofs.Loops.{between}
@@ -45,13 +45,18 @@ module _ (h : House) where
   abbrev owned : Session → Bool
   owned s = s .writes implies ownedWell (user h (s .owner)) s
 
+  abbrev inside : Session → Bool
+  inside s = within (user h (s .owner)) s
+
   users-are : (l : List User) → Is (all (userKeeps h) l) (((Pass userFits l × Pass (roomsThere h) l) × Pass staffIfTrusted l) × Pass bareIfOutsider l)
   users-are l =
       together (λ u. userFits u && roomsThere h u && staffIfTrusted u) bareIfOutsider l
       (together (λ u. userFits u && roomsThere h u) staffIfTrusted l (together userFits (roomsThere h) l itself itself) itself) itself
 
-  sessions-are : (l : List Session) → Is (all (sessionKeeps h) l) ((Pass sessionFits l × Pass (sessionThere h) l) × Pass owned l)
-  sessions-are l = together (λ s. sessionFits s && sessionThere h s) owned l (together sessionFits (sessionThere h) l itself itself) itself
+  sessions-are : (l : List Session) → Is (all (sessionKeeps h) l) (((Pass sessionFits l × Pass (sessionThere h) l) × Pass owned l) × Pass inside l)
+  sessions-are l =
+      together (λ s. sessionFits s && sessionThere h s && owned s) inside l
+      (together (λ s. sessionFits s && sessionThere h s) owned l (together sessionFits (sessionThere h) l itself itself) itself) itself
 
   scripts-are : (l : List Script) → Is (all (scriptKeeps h) l) (Pass scriptFits l × Pass (originThere h) l)
   scripts-are l = together scriptFits (originThere h) l itself itself
@@ -82,6 +87,7 @@ module _ (h : House) (last : ℕ) where
     sessions-fit : Pass sessionFits (h .sessions)
     sessions-there : Pass (sessionThere h) (h .sessions)
     sessions-owned : Pass (owned h) (h .sessions)
+    sessions-within : Pass (inside h) (h .sessions)
     scripts-fit : Pass scriptFits (h .scripts)
     origins-there : Pass (originThere h) (h .scripts)
     drafted : eachDrafted h ≡ true
@@ -109,9 +115,10 @@ module _ (h : House) (last : ℕ) where
         outsiders-bare = u .1;
         an-admin = t .0 .0 .0 .0 .1;
         led = t .0 .0 .0 .1;
-        sessions-fit = x .0 .0;
-        sessions-there = x .0 .1;
-        sessions-owned = x .1;
+        sessions-fit = x .0 .0 .0;
+        sessions-there = x .0 .0 .1;
+        sessions-owned = x .0 .1;
+        sessions-within = x .1;
         scripts-fit = s .0 .0;
         origins-there = s .0 .1;
         drafted = s .1;
@@ -125,7 +132,7 @@ module _ (h : House) (last : ℕ) where
         (
           (
             (((k .rooms-fit, (((k .users-fit, k .rooms-there), k .staff-trusted), k .outsiders-bare)), k .an-admin), k .led),
-            ((k .sessions-fit, k .sessions-there), k .sessions-owned),
+            (((k .sessions-fit, k .sessions-there), k .sessions-owned), k .sessions-within),
           ),
           ((k .scripts-fit, k .origins-there), k .drafted),
         ),
@@ -145,21 +152,22 @@ module _ (h : House) (last : ℕ) where
           and test (eqb (length (h .sessions)) 64) and test (all sessionFits (h .sessions))
           and test (leb (length (h .drafts)) 256) and test (leb last 4294967295))
           and (test (all (roomsThere h) (h .users)) and test (all (sessionThere h) (h .sessions)) and test (all (originThere h) (h .scripts)) and test (all (draftThere h) (h .drafts)))
-          and test (administered h) and test (staffOnly h) and test (oneLead h) and test (outsidersBare h) and test (sessionsOwned h)
+          and test (administered h) and test (staffOnly h) and test (oneLead h) and test (outsidersBare h) and test (sessionsOwned h) and test (sessionsWithin h)
           and test (roomDrafts h) and test (houseDrafts h) and test (eachDrafted h) and test (eachPlaced h) and test (numbersRise h last)) .says e in
-          let b = t .0 .0 .0 .0 .0 .0 .0 .0 .0 .0 .0 in
-          let n = t .0 .0 .0 .0 .0 .0 .0 .0 .0 .0 .1 in
+          let b = t .0 .0 .0 .0 .0 .0 .0 .0 .0 .0 .0 .0 in
+          let n = t .0 .0 .0 .0 .0 .0 .0 .0 .0 .0 .0 .1 in
           record {
             rooms-fit = b .0 .0 .0 .0 .0 .0 .1;
             users-fit = b .0 .0 .0 .0 .0 .0 .0 .1;
             rooms-there = n .0 .0 .0;
-            staff-trusted = t .0 .0 .0 .0 .0 .0 .0 .0 .1;
-            outsiders-bare = t .0 .0 .0 .0 .0 .0 .1;
-            an-admin = t .0 .0 .0 .0 .0 .0 .0 .0 .0 .1;
-            led = t .0 .0 .0 .0 .0 .0 .0 .1;
+            staff-trusted = t .0 .0 .0 .0 .0 .0 .0 .0 .0 .1;
+            outsiders-bare = t .0 .0 .0 .0 .0 .0 .0 .1;
+            an-admin = t .0 .0 .0 .0 .0 .0 .0 .0 .0 .0 .1;
+            led = t .0 .0 .0 .0 .0 .0 .0 .0 .1;
             sessions-fit = b .0 .0 .1;
             sessions-there = n .0 .0 .1;
-            sessions-owned = t .0 .0 .0 .0 .0 .1;
+            sessions-owned = t .0 .0 .0 .0 .0 .0 .1;
+            sessions-within = t .0 .0 .0 .0 .0 .1;
             scripts-fit = b .0 .0 .0 .0 .1;
             origins-there = n .0 .1;
             drafted = t .0 .0 .1;
@@ -170,7 +178,7 @@ module _ (h : House) (last : ℕ) where
             rising = t .1;
           };
       shown = λ k.
-          rw (eq-eqb (length (h .users)) 64 users-64, k .users-fit, k .rooms-fit, eq-eqb (length (h .scripts)) 64 scripts-64, k .scripts-fit, eq-eqb (length (h .sessions)) 64 sessions-64, k .sessions-fit, le-leb (length (h .drafts)) 256 drafts-256, le-leb last 4294967295 counter, k .rooms-there, k .sessions-there, k .origins-there, k .drafts-there, k .an-admin, k .staff-trusted, k .led, k .outsiders-bare, k .sessions-owned, k .in-their-room, k .at-home-or-one, k .drafted, k .drafts-placed, k .rising);
+          rw (eq-eqb (length (h .users)) 64 users-64, k .users-fit, k .rooms-fit, eq-eqb (length (h .scripts)) 64 scripts-64, k .scripts-fit, eq-eqb (length (h .sessions)) 64 sessions-64, k .sessions-fit, le-leb (length (h .drafts)) 256 drafts-256, le-leb last 4294967295 counter, k .rooms-there, k .sessions-there, k .origins-there, k .drafts-there, k .an-admin, k .staff-trusted, k .led, k .outsiders-bare, k .sessions-owned, k .sessions-within, k .in-their-room, k .at-home-or-one, k .drafted, k .drafts-placed, k .rising);
     }
 
     pub by-tables : byTables ≡ rules h last

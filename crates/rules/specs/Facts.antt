@@ -80,13 +80,17 @@ pub record Writing (rooms : ℕ) (o : User) (x : Session) : Type 0 where
   pub place-there : Place rooms (x .place)
   pub house-staff : x .place ≡ house → o .sort ≡ staff
   pub room-member : (x .place ≡ house → ⊥) → has (o .rooms) (x .place) ≡ true
-  pub level-within : x .level ≤ o .level
-  pub categories-within : contains (o .categories) (x .categories) ≡ true
+
+-- x is within a label
+pub record Within (level categories : ℕ) (x : Session) : Type 0 where
+  pub level-within : x .level ≤ level
+  pub categories-within : contains categories (x .categories) ≡ true
 
 pub record SessionFine (rooms : ℕ) (o : User) (x : Session) : Type 0 where
   pub absent : x .here ≡ false → x ≡ noSession
   pub label : LabelFits (x .level) (x .categories)
   pub owner-there : x .here ≡ true → o .here ≡ true
+  pub within : Within (o .level) (o .categories) x
   pub writing : x .writes ≡ true → Writing rooms o x
   pub reading : x .here ≡ true → x .writes ≡ false → x .place ≡ noPlace
 

@@ -5,7 +5,7 @@ use mathlib.Core.List.{List, [], _∷_}
 use lib.Dec.{eqb, leb, ltb}
 use lib.ListN.{length}
 use Rattle.records.specs.Lists.{any, all, allFrom, count}
-use Rattle.label.specs.Labels.{contains}
+use Rattle.label.specs.Labels.{contains, covers}
 use Rattle.records.specs.Places.{has, with, only, roomNumbers}
 use Rattle.records.specs.House.{House, house, noPlace, staff, outsider, user, script}
 use Rattle.records.specs.Lookups.{ofScript, placed}
@@ -68,16 +68,19 @@ bareIfOutsider u = eqb (u .sort) outsider implies (eqb (u .level) 0 && eqb (u .c
 abbrev pub outsidersBare : House → Bool
 outsidersBare h = all bareIfOutsider (h .users)
 
--- ---- "RW sessions owned by staff (house) or by members of their room, and within the owner's label"
+-- ---- "RW sessions owned by staff (house) or by members of their room"
 abbrev pub ownedWell : User → Session → Bool
-ownedWell o s =
-    (eqb (s .place) house implies eqb (o .sort) staff)
-    && (not (eqb (s .place) house) implies has (o .rooms) (s .place))
-    && leb (s .level) (o .level)
-    && contains (o .categories) (s .categories)
+ownedWell o s = (eqb (s .place) house implies eqb (o .sort) staff) && (not (eqb (s .place) house) implies has (o .rooms) (s .place))
 
 abbrev pub sessionsOwned : House → Bool
 sessionsOwned h = all (λ s. s .writes implies ownedWell (user h (s .owner)) s) (h .sessions)
+
+-- ---- "within the owner's label"; 02, L4: "from then on every session", so RO sessions too
+abbrev pub within : User → Session → Bool
+within o s = covers (o .level) (o .categories) (s .level) (s .categories)
+
+abbrev pub sessionsWithin : House → Bool
+sessionsWithin h = all (λ s. within (user h (s .owner)) s) (h .sessions)
 
 -- ---- "a room script's drafts in that room only"
 abbrev pub inItsRoom : House → Draft → Bool
@@ -142,5 +145,5 @@ bounded h last =
 -- ---- all of them, of the records h and the last draft number issued
 unfoldable pub rules : House → ℕ → Bool
 rules h last =
-    bounded h last && namedThere h && administered h && staffOnly h && oneLead h && outsidersBare h && sessionsOwned h && roomDrafts h && houseDrafts h
-    && eachDrafted h && eachPlaced h && numbersRise h last
+    bounded h last && namedThere h && administered h && staffOnly h && oneLead h && outsidersBare h && sessionsOwned h && sessionsWithin h && roomDrafts h
+    && houseDrafts h && eachDrafted h && eachPlaced h && numbersRise h last

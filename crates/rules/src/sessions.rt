@@ -2,7 +2,7 @@
 ghost use mathlib.Core.Path.{_≡_};
 ghost use Rattle.records.specs.Lists.{all};
 ghost use Rattle.records.specs.House.{view};
-ghost use Rattle.rules.specs.Rules.{sessionFits, sessionThere, ownedWell};
+ghost use Rattle.rules.specs.Rules.{sessionFits, sessionThere, ownedWell, within};
 ghost use Rattle.rules.specs.Walks.{sessionKeeps};
 use crate::is_place;
 use crate::label_fits;
@@ -36,8 +36,17 @@ fn owned_well(owner: User, session: Session) -> bool
 {
     (!(session.place == 0) | (owner.sort == 0))
         & (!(session.place != 0) | records::has(owner.rooms, session.place))
-        & (session.level <= owner.level)
-        & ((owner.categories & session.categories) == session.categories)
+}
+
+fn within(owner: User, session: Session) -> bool
+    ensures { λ r. ⌜ r ≡ within owner session ⌝ }
+{
+    label::covers(
+        owner.level,
+        owner.categories,
+        session.level,
+        session.categories,
+    )
 }
 
 fn session_keeps(records: &Cells, session: Session) -> bool
@@ -47,6 +56,7 @@ fn session_keeps(records: &Cells, session: Session) -> bool
     session_fits(session)
         & session_there(records, session)
         & (!session.writes | owned_well(owner, session))
+        & within(owner, session)
 }
 
 // ---- of all of them

@@ -12,7 +12,7 @@ returns c =
       p .put-rooms .ensures,
       p .before .before .without .ensures,
       p .before .before .before .rooms .ensures,
-      s .before .close-sessions .ensures,
+      s .before .end-sessions .ensures,
       s .before .before .before .shut-scripts .ensures,
       s .before .before .before .before .before .cut-places .ensures,
       s .before .before .before .before .before .before .before .part-users .ensures,

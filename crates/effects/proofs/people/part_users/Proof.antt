@@ -6,7 +6,7 @@ use mathlib.Core.Path.{_∙_, ap}
 use Rattle.records.specs.House.{view, noUser}
 use Rattle.records.proofs.Views.{count-users}
 use Rattle.effects.specs.Elements.{parted}
-use Rattle.effects.proofs.Parts.{users, Done, start, store, skip, finish-map}
+use Rattle.sessions.proofs.InPlace.{users, Done, start, store, skip, finish-map}
 use Rattle.effects.proofs.Same.{same-user}
 use Rattle.effects.proofs.people.part_users.Statement.{statement}
 use Rattle.effects.proofs.people.part_users.Tie as tie

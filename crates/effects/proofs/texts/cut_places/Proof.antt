@@ -5,7 +5,7 @@ use Prim.Native.Nat.{_≤_, _-_}
 use mathlib.Core.Path.{_∙_, ap}
 use Rattle.records.specs.House.{view, noDraft}
 use Rattle.effects.specs.Elements.{unplaced}
-use Rattle.effects.proofs.Parts.{drafts, Done, start, store, skip, finish-map}
+use Rattle.sessions.proofs.InPlace.{drafts, Done, start, store, skip, finish-map}
 use Rattle.effects.proofs.Same.{same-draft}
 use Rattle.effects.proofs.texts.cut_places.Statement.{statement}
 use Rattle.effects.proofs.texts.cut_places.Tie as tie

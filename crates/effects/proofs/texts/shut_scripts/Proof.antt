@@ -8,7 +8,7 @@ use mathlib.Core.Bool.{true, false}
 use Rattle.records.specs.House.{view, script, noScript}
 use Rattle.records.proofs.Views.{count-scripts}
 use Rattle.effects.specs.Elements.{shuts, shut}
-use Rattle.effects.proofs.Parts.{scripts, Done, start, store, skip, finish-map}
+use Rattle.sessions.proofs.InPlace.{scripts, Done, start, store, skip, finish-map}
 use Rattle.effects.proofs.texts.shut_scripts.Statement.{statement}
 use Rattle.effects.proofs.texts.shut_scripts.Tie as tie
 

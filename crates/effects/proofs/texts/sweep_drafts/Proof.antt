@@ -7,7 +7,8 @@ use mathlib.Core.Path.{_≡_}
 use mathlib.Core.Bool.{true, false}
 use Rattle.records.specs.House.{view, draftAt, noDraft}
 use Rattle.records.specs.Lookups.{placed}
-use Rattle.effects.proofs.Parts.{drafts, Sifted, sift-start, sift-keep, sift-cut, sift-finish}
+use Rattle.sessions.proofs.InPlace.{drafts}
+use Rattle.effects.proofs.Parts.{Sifted, sift-start, sift-keep, sift-cut, sift-finish}
 use Rattle.effects.proofs.texts.sweep_drafts.Statement.{statement}
 use Rattle.effects.proofs.texts.sweep_drafts.Tie as tie
 

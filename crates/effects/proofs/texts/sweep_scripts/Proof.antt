@@ -9,7 +9,7 @@ use Rattle.records.specs.House.{view, script, noScript}
 use Rattle.records.specs.declared.Script.{Script}
 use Rattle.records.proofs.Views.{count-scripts}
 use Rattle.effects.specs.Effects.{deserted}
-use Rattle.effects.proofs.Parts.{scripts, Done, start, store, skip, finish}
+use Rattle.sessions.proofs.InPlace.{scripts, Done, start, store, skip, finish}
 use Rattle.effects.proofs.texts.sweep_scripts.Statement.{statement}
 use Rattle.effects.proofs.texts.sweep_scripts.Tie as tie
 

@@ -1,7 +1,7 @@
 -- `kill` meets its contract: the absent session is stored.
 use borrow.Author.Needs.{needs}
-use Rattle.effects.proofs.sessions.kill.Statement.{statement}
-use Rattle.effects.proofs.sessions.kill.Tie as tie
+use Rattle.sessions.proofs.kill.Statement.{statement}
+use Rattle.sessions.proofs.kill.Tie as tie
 
 returns : tie.Need-returns
 returns c = rw (c .put-session .ensures, c .before .no-session .ensures)

@@ -1,0 +1,2 @@
+-- What becomes of sessions.
+pub mod Sessions
