@@ -16,13 +16,15 @@ abbrev pub reading : ℕ → ℕ → ℕ → Session
 reading owner level c = record { here = true; owner = owner; level = level; categories = c; writes = false; place = noPlace }
 
 -- ---- some end together
--- 0B: "its RW sessions gone"
--- 04, 06: "w's RW sessions of that room end"
--- 05, by 02, L4: "every session of that user not covered by the new label ends in the same step"
+-- 02, L4: "every session of that user not covered by the new label"
+abbrev pub uncovered : ℕ → ℕ → ℕ → Session → Bool
+uncovered w level c s = eqb (s .owner) w && not (covers level c (s .level) (s .categories))
+
+-- 0B: "its RW sessions gone"; 04, 06: "w's RW sessions of that room end"; 05: those not covered
 abbrev pub ends : Ending → Session → Bool
 ends (OfRoom room) s = s .writes && eqb (s .place) room
 ends (OfMember w room) s = s .writes && eqb (s .owner) w && eqb (s .place) room
-ends (Uncovered w level c) s = eqb (s .owner) w && not (covers level c (s .level) (s .categories))
+ends (Uncovered w level c) s = uncovered w level c s
 
 abbrev pub ended : Ending → Session → Session
 ended e s = cond (ends e s) noSession s

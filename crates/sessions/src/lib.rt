@@ -2,11 +2,11 @@
 ghost use mathlib.Core.Path.{_≡_};
 ghost use mathlib.Core.List.{map};
 ghost use Rattle.records.specs.House.{view, putSession, noSession, withSessions};
-ghost use Rattle.sessions.specs.Sessions.{writing, reading, ends, ended};
+ghost use Rattle.sessions.specs.Sessions.{writing, reading, uncovered, ends, ended};
 use records::Cells;
 use records::Session;
 
-// Which sessions end: the RW sessions of a room; those of one member; or all sessions of w, RO and RW, that the label does not cover.
+// Which sessions end: the RW sessions of a room; those of them that w owns; or all sessions of w that the label does not cover.
 pub enum Ending {
     OfRoom { room: u8 },
     OfMember { w: u8, room: u8 },
@@ -55,6 +55,13 @@ pub fn kill(records: &mut Cells, s: u8)
 }
 
 // ---- some end together
+// A session of w that the label does not cover, RO or RW.
+fn uncovered(session: Session, w: u8, level: u8, categories: u16) -> bool
+    ensures { λ r. ⌜ r ≡ uncovered w level categories session ⌝ }
+{
+    (session.owner == w) & !label::covers(level, categories, session.level, session.categories)
+}
+
 fn ends(session: Session, ending: Ending) -> bool
     ensures { λ r. ⌜ r ≡ ends ending session ⌝ }
 {
@@ -67,10 +74,7 @@ fn ends(session: Session, ending: Ending) -> bool
             w,
             level,
             categories,
-        } => {
-            (session.owner == w)
-                & !label::covers(level, categories, session.level, session.categories)
-        }
+        } => uncovered(session, w, level, categories),
     }
 }
 

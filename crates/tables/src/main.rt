@@ -1,4 +1,4 @@
-// Builds six houses by changes and prints each one's tables after each step, to be compared with what document 01 says.
+// Builds seven houses by changes and prints each one's tables after each step, to be compared with what documents 01 and 02 say.
 // A step's line: its scene and number in the scene (307 is the seventh of the third), the kind, the request's bytes, the draft number received.
 // Then the rooms that exist, a line for each user, script and session that is there, the drafts in the order of their table, how many live.
 // Drafts that follow one another by one, with the same script and the same places, share a line. Categories and sets are hexadecimal.
@@ -26,7 +26,7 @@ fn people(records: &mut Cells) {
     step(records, 112, 0x12, 0x01_05_02_0001, 0); // and an RO session
     step(records, 113, 0x06, 0x00_01_01, 0); // leaves room 1: that room's RW session ends
     step(records, 114, 0x06, 0x3F_01_10, 0); // leaves room 16: still a freelancer, with the label
-    step(records, 115, 0x05, 0x00_01_01_04_8000, 0); // in no room: the label is the one given now
+    step(records, 115, 0x05, 0x00_01_01_04_8000, 0); // in no room: the label is the one given now, which lacks a category of the RO session, and that ends
     step(records, 116, 0x04, 0x00_3F_01, 0); // staff leaves
     step(records, 117, 0x04, 0x3F_3F_10, 0); // the lead leaves, and leads still
 }
@@ -153,6 +153,33 @@ fn full(records: &mut Cells) {
     step(records, 622, 0x14, 0x00_3F_00000001, 384); // not stored
 }
 
+// A freelancer comes back to a first room: the sessions that the new label does not cover end. At a second room, and back in one of two, none does.
+fn coming_back(records: &mut Cells) {
+    records::clear(records);
+    step(records, 701, 0x01, 0x00_00_00_07_FFFF_01, 0); // user 0, staff
+    step(records, 702, 0x01, 0x00_01_02_00_0000_00, 0); // user 1, outsider
+    step(records, 703, 0x01, 0x00_3F_02_00_0000_00, 0); // user 63, outsider
+    step(records, 704, 0x02, 0x00_01, 0); // room 1
+    step(records, 705, 0x02, 0x00_10, 0); // room 16
+    step(records, 706, 0x05, 0x00_01_01_05_0003, 0); // user 1 in room 1 at level 5
+    step(records, 707, 0x05, 0x00_3F_01_05_0003, 0); // user 63 likewise
+    step(records, 708, 0x12, 0x01_00_05_0003, 0); // user 1, RO at level 5: will end
+    step(records, 709, 0x12, 0x01_01_03_0001, 0); // one level above the new label: will end
+    step(records, 710, 0x12, 0x01_02_01_0003, 0); // below it, with a category more: will end
+    step(records, 711, 0x12, 0x01_03_02_0001, 0); // exactly at it: stays
+    step(records, 712, 0x12, 0x01_04_02_0000, 0); // at its level, with a category less: stays
+    step(records, 713, 0x12, 0x01_05_00_0001, 0); // at its categories, below its level: stays
+    step(records, 714, 0x12, 0x3F_06_05_0003, 0); // user 63, RO at level 5: stays
+    step(records, 715, 0x10, 0x01_3E_10_03_0001, 0); // user 1, RW in room 16 without having joined it, which no desk grants: will end
+    step(records, 716, 0x10, 0x01_3F_10_02_0001, 0); // the same exactly at the new label: stays
+    step(records, 717, 0x06, 0x00_01_01, 0); // user 1 leaves the only room: the sessions stay
+    step(records, 718, 0x05, 0x00_01_01_02_0001, 0); // user 1 comes back at level 2
+    step(records, 719, 0x12, 0x01_00_02_0001, 0); // session 0 anew, within the label
+    step(records, 720, 0x05, 0x00_01_10_00_0000, 0); // a second room: nothing ends, and the label stays
+    step(records, 721, 0x06, 0x00_01_01, 0); // leaves one of two rooms
+    step(records, 722, 0x05, 0x00_01_01_00_0000, 0); // and joins it again: nothing ends
+}
+
 fn main() {
     let mut records = [0u32; 1858];
     people(&mut records);
@@ -161,4 +188,5 @@ fn main() {
     disbanding(&mut records);
     last_numbers(&mut records);
     full(&mut records);
+    coming_back(&mut records);
 }

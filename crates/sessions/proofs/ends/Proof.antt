@@ -10,7 +10,7 @@ returns-2 : tie.Need-returns-2
 returns-2 c = rw (c .before .before .before .before .ending2 .given .1)
 
 returns-3 : tie.Need-returns-3
-returns-3 c = rw (c .before .before .before .ending3 .given .1, c .covers .ensures)
+returns-3 c = rw (c .before .before .ending3 .given .1, c .uncovered .ensures)
 
 pub ends-spec : {M : Type 1} → statement M
 ends-spec = tie.close (tie.spec (λ c. search needs) (λ c. search needs) (λ c. search needs) (λ c κs. search needs) returns returns-2 returns-3)
