@@ -399,6 +399,7 @@ fn rules_of_sessions_and_drafts() -> Vec<Case> {
         ("ro-session-above-the-level", COVERED, vec![Set("session 2", "44 02 02 03 0001 00 FF", "RO: level 3, above user 2's 2")]),
         ("ro-session-with-a-category-more", COVERED, vec![Set("session 2", "44 02 02 01 8001 00 FF", "RO: a lower level, and category 8000, which user 2 lacks")]),
         ("ro-session-above-the-label", COVERED, vec![Set("session 2", "44 02 02 05 8001 00 FF", "RO: as from an earlier label of user 2; accepted before L4")]),
+        ("ro-session-above-the-label-taken-out", ACCEPTED, vec![Without("session 2")]),
         ("rule-2-and-ro-session-above-the-label", COVERED, vec![
             After("counter", "46", "rule 2"),
             Set("session 2", "44 02 02 05 8001 00 FF", "RO: as from an earlier label of user 2"),
