@@ -36,7 +36,8 @@ departed h w room = withSessions (putUser h w (left room (user h w))) (map (ende
 -- ---- 05: "w joins"; 02, L4: "When Join outsider sets a label, every session of that user not covered by the new label ends in the same step."
 abbrev pub arrived : House → ℕ → ℕ → ℕ → ℕ → House
 arrived h w room level c =
-    withSessions (putUser h w (joined room (hired level c (user h w)))) (cond (inNoRoom (user h w)) (map (ended (Uncovered w level c)) (h .sessions)) (h .sessions))
+    withSessions (putUser h w (joined room (hired level c (user h w))))
+    (cond (inNoRoom (user h w)) (map (ended (Uncovered w level c)) (h .sessions)) (h .sessions))
 
 -- ---- the draft v of script s made anew, where it is there
 abbrev pub onDraft : House → ℕ → ℕ → (Draft → Draft) → House
