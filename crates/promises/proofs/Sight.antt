@@ -5,14 +5,16 @@ use mathlib.Core.Bool.{Bool, true, false, _&&_}
 use mathlib.Core.List.{List, [], _∷_}
 use native.Mathlib.Omega.{arith}
 use lib.ListN.{take}
+use borrow.Author.Tests.{eqb-true}
 use Rattle.request.specs.declared.Request.{Request}
 use Rattle.request.specs.declared.Request.the-variants.{Read}
 use Rattle.records.specs.Lists.{all}
-use Rattle.records.specs.House.{House, script, session}
+use Rattle.records.specs.House.{House, staff, script, session}
 use Rattle.records.specs.declared.Rule.{Rule}
-use Rattle.records.proofs.Places.{contains-has}
+use Rattle.records.proofs.Places.{contains-has, has-none}
 use Rattle.conditions.specs.Labels.{Covered}
 use Rattle.conditions.proofs.Labels.{covered}
+use Rattle.effects.specs.Elements.{inNoRoom}
 use Rattle.effects.specs.declared.Change.{Change}
 use Rattle.reasons.specs.Asking.{AllHold}
 use Rattle.reasons.specs.Shared.{covers, draftAsked}
@@ -37,6 +39,17 @@ within : (h : House) (last : ℕ) → rules h last ≡ true → (x : ℕ) → Se
 within h last m x =
     let w = rules-are h last .says m .seats .each x .within in
     record { no-higher = w .level-within; contained = contains-has (ownerOf h x .categories) (session h x .categories) (w .categories-within) }
+
+-- who is no staff and in no room owns no RW session: where a label is set, only RO sessions can be left to end
+pub only-readers : (h : House) (last : ℕ) → rules h last ≡ true → (x : ℕ) → (ownerOf h x .sort ≡ staff → ⊥) → inNoRoom (ownerOf h x) ≡ true → session h x .writes ≡ false
+only-readers h last m x other nowhere = go (session h x .writes) refl
+  where
+    go : (b : Bool) → session h x .writes ≡ b → session h x .writes ≡ false
+    go false e = e
+    go true e =
+        let f = rules-are h last .says m .seats .each x .writing e in
+        let member = f .room-member (λ z. other (f .house-staff z)) in
+        clash (rw (eqb-true (ownerOf h x .rooms) 0 nowhere) at member) (has-none (session h x .place))
 
 -- what the conditions of Read say of the session and the script
 read-covered : (rule : Rule) (h : House) (x s v : ℕ) → Hold (linesOf rule h (Read x s v))
