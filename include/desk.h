@@ -29,6 +29,8 @@
  * Linux. Nothing else is to be linked:
  *
  *     cc -Iinclude captions.c target/staticlib/libeditor.a
+ *
+ * The library is code alone: it has no data, neither read-only nor written to.
  */
 #ifndef DESK_H
 #define DESK_H

@@ -2,7 +2,7 @@
 use mathlib.Core.Path.{_≡_, refl, _∙_, subst}
 use mathlib.Core.Bool.{Bool, true, false, cond, _&&_}
 use mathlib.Core.List.{List, [], _∷_}
-use Prim.Native.Nat.{ℕ, _<_}
+use Prim.Native.Nat.{ℕ}
 use native.Mathlib.Omega.{arith}
 use lib.Dec.{T, eqb, ltb, ltb→lt}
 use lib.Ieee.Fits.{and-l, and-r}
@@ -41,9 +41,6 @@ absent p x other [] t = refl
 absent p x other (r ∷ rs) t =
     rw (ne-eqb x (r .kind) (other (r .kind) (and-l (p (r .kind)) (every p rs) t)))
     (absent p x other rs (and-r (p (r .kind)) (every p rs) t))
-
-pub beyond : (x : ℕ) → 32 < x → find rows x ≡ none
-beyond x h = absent (λ k. ltb k 33) x (λ k t e. let below = ltb→lt k 33 t in omega (arith, below, e)) rows tt
 
 -- x is none of the keys, as the last arm of a match on x is told: of the last arm first
 abbrev pub NoneOf : List ℕ → ℕ → Type 0

@@ -135,51 +135,32 @@ pub struct Quad {
 // Nine bytes: the longest frame.
 pub type FrameBytes = [u8; 9];
 
-// The body's length for each kind from 00 to 20 (hex), and 255 where no request has that kind.
-const BODY_LENGTHS: [u8; 33] = [
-    255,
-    7,
-    2,
-    3,
-    3,
-    6,
-    3,
-    7,
-    7,
-    8,
-    7,
-    2,
-    255,
-    255,
-    255,
-    255,
-    6,
-    5,
-    5,
-    6,
-    6,
-    2,
-    2,
-    255,
-    255,
-    255,
-    255,
-    255,
-    255,
-    255,
-    255,
-    255,
-    1,
-];
+// The length that no body has: it says that no request has the kind.
+pub(crate) const UNKNOWN: u32 = 255;
 
-// Kinds are taken as wide numbers, so that no caller cuts one down to a byte that is known.
+// The body's length by ranges of kinds. Each line begins a range: a kind below it keeps the length that it had. Nothing is looked up: the caption
+// editor's read-only page is full, and a table, or what a match is compiled to, would lie there (02, L5). Kinds are wide numbers, so that no
+// caller cuts one down to a byte that is known.
 pub fn body_length(kind: u32) -> u32
     ensures { λ r. ⌜ r ≡ bodyLength kind ⌝ }
 {
-    if 32 < kind {
-        return 255;
-    }
-    wide(BODY_LENGTHS[kind as usize])
+    let n = if kind < 0x01 { UNKNOWN } else { 7 };
+    let n = if kind < 0x02 { n } else { 2 };
+    let n = if kind < 0x03 { n } else { 3 };
+    let n = if kind < 0x05 { n } else { 6 };
+    let n = if kind < 0x06 { n } else { 3 };
+    let n = if kind < 0x07 { n } else { 7 };
+    let n = if kind < 0x09 { n } else { 8 };
+    let n = if kind < 0x0A { n } else { 7 };
+    let n = if kind < 0x0B { n } else { 2 };
+    let n = if kind < 0x0C { n } else { UNKNOWN };
+    let n = if kind < 0x10 { n } else { 6 };
+    let n = if kind < 0x11 { n } else { 5 };
+    let n = if kind < 0x13 { n } else { 6 };
+    let n = if kind < 0x15 { n } else { 2 };
+    let n = if kind < 0x17 { n } else { UNKNOWN };
+    let n = if kind < 0x20 { n } else { 1 };
+    if kind < 0x21 { n } else { UNKNOWN }
 }
 
 pub(crate) fn wide(byte: u8) -> u32

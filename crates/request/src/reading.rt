@@ -5,6 +5,7 @@ ghost use Rattle.request.specs.Bytes.{_#_, pair, quad};
 ghost use Rattle.request.specs.Reading.{requestOf, frameOf};
 use crate::Frame;
 use crate::Request;
+use crate::UNKNOWN;
 use crate::body_length;
 use crate::wide;
 
@@ -148,7 +149,7 @@ pub fn read(bytes: &[u8]) -> Frame
     }
     let kind = bytes[0];
     let length = body_length(wide(kind));
-    if length == 255 {
+    if length == UNKNOWN {
         return Frame::Unknown;
     }
     if bytes.len() <= length as usize {

@@ -1,39 +1,52 @@
--- `body_length` meets its contract: the table has each kind's length by one computed test, and no row has a kind past it.
-use borrow.Author.Needs.{needs}
-use mathlib.Core.Path.{_≡_, sym, ap}
-use mathlib.Core.Bool.{Bool}
-use Prim.Native.Nat.{ℕ, _<_}
+-- `body_length` meets its contract, range after range; no row has a kind past the last.
 use native.Mathlib.Omega.{arith}
-use lib.Dec.{T, eqb, eqb→eq}
-use lib.ListN.{length, getD}
-use mathlib.Core.List.{List}
-use Rattle.request.specs.Kinds.{rows, find, lengthAt, bodyLength}
-use Rattle.request.proofs.Tables.{passes, entry}
-use Rattle.request.proofs.Rows.{beyond}
+use Rattle.request.specs.Kinds.{bodyLength}
+use Rattle.request.proofs.Ranges.{start, range, beyond}
 use Rattle.request.proofs.body_length.Statement.{statement}
 use Rattle.request.proofs.body_length.Tie as tie
 
-abbrev right : ℕ → ℕ → Bool
-right kind n = eqb n (lengthAt (find rows kind))
-
-listed : (lengths : List ℕ) (kind : ℕ) → T (passes right 0 lengths) → kind < length lengths → getD lengths kind 0 ≡ lengthAt (find rows kind)
-listed lengths kind t h = eqb→eq _ _ (entry right lengths t kind h)
-
+-- the kind is named at each range: where it has to be found there, that takes longer than all the rest
 returns : tie.Need-returns
 unfolding bodyLength
-returns c = sym (ap lengthAt (beyond _ (c .if1 .taken)))
-
-array-read-wide : tie.Need-array-read-wide
-array-read-wide c = search needs
-
-wide-requires : tie.Need-wide-requires
-wide-requires c κs = search needs
+returns c =
+    let c16 = c .before in
+    let c15 = c16 .before in
+    let c14 = c15 .before in
+    let c13 = c14 .before in
+    let c12 = c13 .before in
+    let c11 = c12 .before in
+    let c10 = c11 .before in
+    let c9 = c10 .before in
+    let c8 = c9 .before in
+    let c7 = c8 .before in
+    let c6 = c7 .before in
+    let c5 = c6 .before in
+    let c4 = c5 .before in
+    let c3 = c4 .before in
+    let c2 = c3 .before in
+    let c1 = c2 .before in
+    let kind = c1 .before .args .kind in
+    range {x = kind} tt (c16 .if16 .came) (λ a. a .taken) (λ b. b .left)
+    (range {x = kind} tt (c15 .if15 .came) (λ a. a .taken) (λ b. b .left)
+    (range {x = kind} tt (c14 .if14 .came) (λ a. a .taken) (λ b. b .left)
+    (range {x = kind} tt (c13 .if13 .came) (λ a. a .taken) (λ b. b .left)
+    (range {x = kind} tt (c12 .if12 .came) (λ a. a .taken) (λ b. b .left)
+    (range {x = kind} tt (c11 .if11 .came) (λ a. a .taken) (λ b. b .left)
+    (range {x = kind} tt (c10 .if10 .came) (λ a. a .taken) (λ b. b .left)
+    (range {x = kind} tt (c9 .if9 .came) (λ a. a .taken) (λ b. b .left)
+    (range {x = kind} tt (c8 .if8 .came) (λ a. a .taken) (λ b. b .left)
+    (range {x = kind} tt (c7 .if7 .came) (λ a. a .taken) (λ b. b .left)
+    (range {x = kind} tt (c6 .if6 .came) (λ a. a .taken) (λ b. b .left)
+    (range {x = kind} tt (c5 .if5 .came) (λ a. a .taken) (λ b. b .left)
+    (range {x = kind} tt (c4 .if4 .came) (λ a. a .taken) (λ b. b .left)
+    (range {x = kind} tt (c3 .if3 .came) (λ a. a .taken) (λ b. b .left)
+    (range {x = kind} tt (c2 .if2 .came) (λ a. a .taken) (λ b. b .left)
+    (range {x = kind} tt (c1 .if1 .came) (λ a. a .taken) (λ b. b .left)
+    (start {first = 0} tt (omega arith))))))))))))))))) (c .if17 .taken)
 
 returns-2 : tie.Need-returns-2
 unfolding bodyLength
-returns-2 c =
-    let below : c .before .before .args .kind < 33 = omega arith in
-    rw (c .wide .ensures, listed, tt, below)
+returns-2 c = beyond _ _ _ tt (c .if17 .left)
 
 pub body-length-spec : {M : Type 1} → statement M
-body-length-spec = tie.close (tie.spec returns array-read-wide wide-requires returns-2)
+body-length-spec = tie.close (tie.spec returns returns-2)
