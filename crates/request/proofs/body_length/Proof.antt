@@ -5,7 +5,7 @@ use Rattle.request.proofs.Ranges.{start, range, beyond}
 use Rattle.request.proofs.body_length.Statement.{statement}
 use Rattle.request.proofs.body_length.Tie as tie
 
--- the kind is named at each range: where it has to be found there, that takes longer than all the rest
+-- the kind is named at each range: where it has to be found there, the check of the crate takes half as long again and more
 returns : tie.Need-returns
 unfolding bodyLength
 returns c =
