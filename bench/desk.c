@@ -33,7 +33,7 @@ static unsigned oldest, kept;
 static uint32_t last;
 static unsigned rule = 1; /* of Import: 1 equal labels, 2 the house script's covers the room script's */
 
-static const uint8_t lengths[33] = {255, 7, 2, 3, 3, 6, 3, 7, 7, 8, 7, 2, 255, 255, 255, 255, 6, 5, 5, 6, 6, 2, 2,
+static const uint8_t lengths[33] = {255, 7, 2, 3, 3, 6, 3, 7, 7, 8, 7, 2, 3, 3, 255, 255, 6, 5, 5, 6, 6, 2, 2,
                                     255, 255, 255, 255, 255, 255, 255, 255, 255, 1};
 
 static uint32_t number_at(const uint8_t *b) { return (uint32_t)b[0] << 24 | (uint32_t)b[1] << 16 | (uint32_t)b[2] << 8 | b[3]; }
@@ -184,6 +184,12 @@ static void apply(struct house *h, const uint8_t *f, uint32_t number)
     case 0x0B:
         disband(h, f[2]);
         break;
+    case 0x0C:
+        h->users[f[2]].leads |= bit(f[3]);
+        break;
+    case 0x0D:
+        h->users[f[2]].leads &= ~bit(f[3]);
+        break;
     case 0x10:
         open_session(h, f[2], f[1], f[4], categories_at(f + 5), 1, f[3]);
         break;
@@ -223,6 +229,16 @@ static int no_users(void)
     return 1;
 }
 
+/* whether anyone but w leads the room */
+static int led_by_another(const struct house *h, unsigned w, unsigned room)
+{
+    unsigned i;
+    for (i = 0; i < 64; i++)
+        if (i != w && (h->users[i].leads & bit(room)))
+            return 1;
+    return 0;
+}
+
 static int judge_people(const uint8_t *f)
 {
     const struct house *h = &current;
@@ -258,10 +274,12 @@ static int judge_people(const uint8_t *f)
             return 4;
         if (!(u->leads & bit(f[3])))
             return 6;
-        if (f[0] <= 0x04 ? w->sort != 0 : f[0] == 0x05 ? w->sort == 0 : w->sort != 1)
+        if (f[0] == 0x05 ? w->sort == 0 : f[0] == 0x06 ? w->sort != 1 : w->sort != 0)
             return 7;
-        in = (w->rooms & bit(f[3])) != 0;
-        return in == (f[0] == 0x03 || f[0] == 0x05) ? 8 : 0;
+        in = ((f[0] >= 0x0C ? w->leads : w->rooms) & bit(f[3])) != 0;
+        if (in == (f[0] == 0x03 || f[0] == 0x05 || f[0] == 0x0C))
+            return 8;
+        return f[0] == 0x0D && !led_by_another(h, f[2], f[3]) ? 8 : 0;
     }
 }
 
@@ -358,7 +376,7 @@ static int judge(const uint8_t *f)
     const struct house *h = &current;
     const struct session *s;
     switch (f[0]) {
-    case 0x01: case 0x02: case 0x03: case 0x04: case 0x05: case 0x06:
+    case 0x01: case 0x02: case 0x03: case 0x04: case 0x05: case 0x06: case 0x0C: case 0x0D:
         return judge_people(f);
     case 0x07: case 0x08: case 0x09: case 0x0A:
         return judge_drafts(f);

@@ -106,7 +106,7 @@ static int is_place(const struct house *h, unsigned p) { return p == 0 || (p <= 
 /* the record rules, of records whose fields are within their bounds */
 static int keeps_rules(const struct house *h, uint32_t number)
 {
-    uint32_t once = 0, twice = 0;
+    uint32_t led = 0;
     uint64_t drafted = 0, scripts = 0;
     unsigned i, any = 0, administered = 0;
     for (i = 0; i < 64; i++) {
@@ -115,10 +115,9 @@ static int keeps_rules(const struct house *h, uint32_t number)
             return 0;
         if (u->sort == 2 && (u->level || u->categories || u->rooms))
             return 0;
-        any |= u->here, administered |= u->admin;
-        twice |= once & u->leads, once |= u->leads;
+        any |= u->here, administered |= u->admin, led |= u->leads;
     }
-    if ((any && !administered) || once != h->rooms || twice)
+    if ((any && !administered) || led != h->rooms)
         return 0;
     for (i = 0; i < 64; i++) {
         const struct session *s = &h->sessions[i];

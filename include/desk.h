@@ -82,7 +82,7 @@ uint32_t desk_join(uint32_t a, uint32_t b);
 /*
  * The number of bytes that follow the kind byte of a request.
  *
- * Answers 1 to 8 for the kinds 01 to 0B, 10 to 16 and 20 (hex), and
+ * Answers 1 to 8 for the kinds 01 to 0D, 10 to 16 and 20 (hex), and
  * DESK_UNKNOWN_KIND for every other number, those over 255 too: a kind is never
  * cut to a byte.
  */

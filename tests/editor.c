@@ -251,6 +251,8 @@ static const struct {
     {0x09, "u script1 v script2 room"},
     {0x0A, "u script v room"},
     {0x0B, "u room"},
+    {0x0C, "u w room"},
+    {0x0D, "u w room"},
     {0x10, "u s room level c"},
     {0x11, "u s level c"},
     {0x12, "u s level c"},

@@ -26,6 +26,8 @@ compare examples/monday.out --from examples/saturday.hex examples/monday.hex
 compare examples/monday.why --why --from examples/saturday.hex examples/monday.hex
 compare examples/returns.out examples/returns.hex
 compare examples/returns.why --why examples/returns.hex
+compare examples/holiday.out examples/holiday.hex
+compare examples/holiday.why --why examples/holiday.hex
 compare examples/merged.out --rule 2 examples/merged.hex
 compare examples/merged.why --why --rule 2 examples/merged.hex
 compare examples/merged-rule-1.out --rule 1 examples/merged.hex

@@ -1,15 +1,15 @@
 /*
- * The body's length of every kind from 0 to 70,000 and of the last thousand of 32 bits, as desk_body_length answered while it looked
- * them up (02, L5): no answer has changed, for unknown kinds neither.
+ * The body's length of every kind from 0 to 70,000 and of the last thousand of 32 bits, beside a table: desk_body_length, which has none
+ * (02, L5), answers as if it looked them up, for unknown kinds too.
  *
- * Prints how many it asked for. Exit status: 0 all as before; 1 one is not.
+ * Prints how many it asked for. Exit status: 0 all as in the table; 1 one is not.
  */
 #include "desk.h"
 #include <stdio.h>
 
-/* The table as the desk had it, kinds 00 to 20 (hex). */
-static const unsigned char before[33] = {
-    255, 7,   2,   3,   3,   6,   3,   7,   7,   8,   7,   2,   255, 255, 255, 255, 6,
+/* The table as the desk had it, kinds 00 to 20 (hex), with 0C and 0D, which came later (02, L6). */
+static const unsigned char table[33] = {
+    255, 7,   2,   3,   3,   6,   3,   7,   7,   8,   7,   2,   3,   3,   255, 255, 6,
     5,   5,   6,   6,   2,   2,   255, 255, 255, 255, 255, 255, 255, 255, 255, 1,
 };
 
@@ -17,11 +17,11 @@ static unsigned long asked = 0, different = 0;
 
 static void ask(uint32_t kind)
 {
-    uint32_t expected = kind < sizeof before ? before[kind] : 255, answer = desk_body_length(kind);
+    uint32_t expected = kind < sizeof table ? table[kind] : 255, answer = desk_body_length(kind);
     asked++;
     if (answer != expected) {
         different++;
-        printf("editor: kind %lX: %lu, and %lu before\n", (unsigned long)kind, (unsigned long)answer, (unsigned long)expected);
+        printf("editor: kind %lX: %lu, and %lu in the table\n", (unsigned long)kind, (unsigned long)answer, (unsigned long)expected);
     }
 }
 
@@ -32,6 +32,6 @@ int main(void)
         ask(i);
     for (i = 0; i < 1000; i++)
         ask(0xFFFFFFFFu - i);
-    printf("editor: kinds as before: %lu asked, %lu different\n", asked, different);
+    printf("editor: kinds as in the table: %lu asked, %lu different\n", asked, different);
     return asked != 71001 || different != 0;
 }

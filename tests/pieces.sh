@@ -6,7 +6,7 @@ set -eu
 root=$(CDPATH='' cd -- "$(dirname -- "$0")/.." && pwd -P)
 desk=${DESK:-$root/desk}
 seed=${SEED:-1}
-count=540000
+count=550000
 least=3000000
 
 fail() { echo "pieces.sh: seed $seed: $*" >&2; exit 1; }

@@ -4,7 +4,6 @@ pub mod Turn
 pub mod Runs
 pub mod Bounds
 pub mod Stops
-pub mod Reading
 pub mod Pieces
 pub mod Calls
 pub mod Served

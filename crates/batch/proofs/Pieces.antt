@@ -15,7 +15,7 @@ use Rattle.batch.specs.Batch.{State, Result, runBatch}
 use Rattle.batch.specs.Stops.{Means}
 use Rattle.batch.specs.Pieces.{behind}
 use Rattle.batch.specs.declared.Stop.{Stop}
-use Rattle.batch.proofs.Reading.{kind-more, frame-more}
+use Rattle.request.proofs.More.{kind-more, frame-more}
 use Rattle.batch.proofs.Steps.{answered, behind-none, behind-behind, with-request}
 use Rattle.batch.proofs.Runs.{Runs, no-bytes, no-room, unknown, cut, request, runs}
 use Rattle.batch.proofs.Stops.{stop-means}

@@ -1,8 +1,8 @@
--- The facts that 01's refusal table asks for, each of the one record that it is asked of. The quoted words are the table's.
+-- The facts that 01's refusal table and 02 ask for, each of the one record that it is asked of. The quoted words are theirs.
 use Prim.Native.Nat.{ℕ}
 use mathlib.Core.Bool.{Bool, not, cond, _&&_, _||_}
 use lib.Bits.{bitAnd}
-use lib.Dec.{eqb, ltb}
+use lib.Dec.{eqb, leb, ltb}
 use lib.ListN.{length}
 use Rattle.label.specs.Labels.{dominates, differs}
 use Rattle.label.specs.declared.Label.{Label}
@@ -12,6 +12,7 @@ use Rattle.records.specs.Lists.{any}
 use Rattle.records.specs.Places.{has, with, only}
 use Rattle.records.specs.House.{House, house, staff, freelancer, user, script, session}
 use Rattle.records.specs.Lookups.{draftIs}
+use Rattle.leads.specs.Leads.{leadCount}
 use Rattle.records.specs.declared.User.{User}
 use Rattle.records.specs.declared.Script.{Script}
 use Rattle.records.specs.declared.Session.{Session}
@@ -39,7 +40,7 @@ abbrev pub noUsers : House → Bool
 noUsers h = not (any (λ u. u .here) (h .users))
 
 -- ---- 6 and 7
--- "u doesn't lead the room"
+-- "u doesn't lead the room"; 02, L6, under 8: "w already leads (0C), doesn't lead (0D)"
 abbrev pub leads : User → ℕ → Bool
 leads u room = has (u .leads) room
 
@@ -59,6 +60,10 @@ mayKill user u s = eqb (s .owner) u || (s .writes && has (user .leads) (s .place
 -- "already in", "not in", "u not in the room"
 abbrev pub isIn : User → ℕ → Bool
 isIn u room = has (u .rooms) room
+
+-- 02, L6: "is the only lead (0D)": whose lead is to end leads the room, so another leads it where two do
+abbrev pub anotherLeads : House → ℕ → Bool
+anotherLeads h room = leb 2 (leadCount h room)
 
 -- "house not among the places", "room not among them"
 abbrev pub isAt : Draft → ℕ → Bool

@@ -7,15 +7,16 @@ use native.Mathlib.Omega.{arith}
 use lib.Dec.{leb}
 use lib.ListN.{length, drop, length-append, length-drop, List·getD-append}
 use lib.Seq.{drop-drop, drop-append-le}
-use borrow.Author.Tests.{leb-true, leb-false, lt-leb}
-use Rattle.request.specs.Bytes.{_#_, pair, quad, pairAt, quadAt}
-use Rattle.request.specs.Kinds.{Body, one, two, four, make, Row, Sought, at, none, rows, find, bodyLength}
+use borrow.Author.Tests.{leb-true}
+use Rattle.request.specs.Bytes.{_#_}
+use Rattle.request.specs.Kinds.{Row, Sought, at, none, rows, find, bodyLength}
 use Rattle.request.specs.Reading.{fieldsFrom, frameAt, frameOf}
 use Rattle.request.specs.Writing.{written}
 use Rattle.request.specs.Framing.{End, no-bytes, unknown-kind, cut-body, Series, ends, before, seriesOf, writtenOut}
 use Rattle.request.specs.declared.Frame.the-variants.{Whole, Unknown, Cut}
 use Rattle.request.specs.declared.Request.{Request}
-use Rattle.request.proofs.Rows.{Each, _&_, found}
+use Rattle.request.proofs.Rows.{short-found}
+use Rattle.request.proofs.More.{frame-more}
 use Rattle.request.proofs.Ways.{by-row}
 use Rattle.request.proofs.Framing.{whole-is, series-unknown, series-whole, Cuts, nothing, unknown, cut, whole}
 use Rattle.request.proofs.Absurd.{differ}
@@ -27,83 +28,11 @@ use Rattle.history.specs.Desk.{deskRules}
 use Rattle.desk.specs.Answers.{givenTo}
 use Rattle.desk.specs.Turns.{readsOn}
 
-abbrev Short : Row → Type 0
-Short r = r .length ≤ 8
-
-all-short : Each Short rows
-all-short =
-    omega arith & omega arith & omega arith & omega arith & omega arith & omega arith & omega arith & omega arith & omega arith & omega arith
-    & omega arith & omega arith & omega arith & omega arith & omega arith & omega arith & omega arith & omega arith & omega arith & tt
-
 -- the row of the first byte decides
 row-decides : (kind : ℕ) (rest : List ℕ) → frameOf (kind ∷ rest) ≡ frameAt (find rows kind) (kind ∷ rest)
 row-decides kind rest = by-row (kind ∷ rest) (λ e. omega (arith, e)) (find rows kind) refl
 
--- ---- a body's fields lie within its row's length, so bytes behind them are not read
-abbrev Within : ℕ → ℕ → Body → Type 0
-Within n i (one f) = (i < n) × ((x : ℕ) → Within n (i + 1) (f x))
-Within n i (two f) = (i + 1 < n) × ((x : ℕ) → Within n (i + 2) (f x))
-Within n i (four f) = (i + 3 < n) × ((x : ℕ) → Within n (i + 4) (f x))
-Within n i (make q) = Unit {0}
-
-abbrev Reads : ℕ → Row → Type 0
-Reads n r = r .length < n → Within n 1 (r .body)
-
-all-within : (n : ℕ) → Each (Reads n) rows
-all-within n =
-    (λ h. (omega (arith, h), λ _. (omega (arith, h), λ _. (omega (arith, h), λ _. (omega (arith, h), λ _. (omega (arith, h), λ _. (omega (arith, h), λ _. tt)))))))
-    & (λ h. (omega (arith, h), λ _. (omega (arith, h), λ _. tt)))
-    & (λ h. (omega (arith, h), λ _. (omega (arith, h), λ _. (omega (arith, h), λ _. tt))))
-    & (λ h. (omega (arith, h), λ _. (omega (arith, h), λ _. (omega (arith, h), λ _. tt))))
-    & (λ h. (omega (arith, h), λ _. (omega (arith, h), λ _. (omega (arith, h), λ _. (omega (arith, h), λ _. (omega (arith, h), λ _. tt))))))
-    & (λ h. (omega (arith, h), λ _. (omega (arith, h), λ _. (omega (arith, h), λ _. tt))))
-    & (λ h. (omega (arith, h), λ _. (omega (arith, h), λ _. (omega (arith, h), λ _. (omega (arith, h), λ _. tt)))))
-    & (λ h. (omega (arith, h), λ _. (omega (arith, h), λ _. (omega (arith, h), λ _. (omega (arith, h), λ _. tt)))))
-    & (λ h. (omega (arith, h), λ _. (omega (arith, h), λ _. (omega (arith, h), λ _. (omega (arith, h), λ _. (omega (arith, h), λ _. tt))))))
-    & (λ h. (omega (arith, h), λ _. (omega (arith, h), λ _. (omega (arith, h), λ _. (omega (arith, h), λ _. tt)))))
-    & (λ h. (omega (arith, h), λ _. (omega (arith, h), λ _. tt)))
-    & (λ h. (omega (arith, h), λ _. (omega (arith, h), λ _. (omega (arith, h), λ _. (omega (arith, h), λ _. (omega (arith, h), λ _. tt))))))
-    & (λ h. (omega (arith, h), λ _. (omega (arith, h), λ _. (omega (arith, h), λ _. (omega (arith, h), λ _. tt)))))
-    & (λ h. (omega (arith, h), λ _. (omega (arith, h), λ _. (omega (arith, h), λ _. (omega (arith, h), λ _. tt)))))
-    & (λ h. (omega (arith, h), λ _. (omega (arith, h), λ _. (omega (arith, h), λ _. tt))))
-    & (λ h. (omega (arith, h), λ _. (omega (arith, h), λ _. (omega (arith, h), λ _. tt))))
-    & (λ h. (omega (arith, h), λ _. (omega (arith, h), λ _. tt)))
-    & (λ h. (omega (arith, h), λ _. (omega (arith, h), λ _. tt)))
-    & (λ h. (omega (arith, h), λ _. tt))
-    & tt
-
-fields-more : (b later : List ℕ) (i : ℕ) (body : Body) → Within (length b) i body → fieldsFrom (b ++ later) i body ≡ fieldsFrom b i body
-fields-more b later i (one f) (l, w) =
-    ap (λ (x : ℕ). fieldsFrom (b ++ later) (i + 1) (f x)) (List·getD-append b later 0 i l) ∙ fields-more b later (i + 1) (f (b # i)) (w (b # i))
-fields-more b later i (two f) (l, w) =
-    let x = List·getD-append b later 0 i (omega (arith, l)) in
-    let y = List·getD-append b later 0 (i + 1) l in
-    (λ j. fieldsFrom (b ++ later) (i + 2) (f (pair (x j) (y j)))) ∙ fields-more b later (i + 2) (f (pairAt b i)) (w (pairAt b i))
-fields-more b later i (four f) (l, w) =
-    let x = List·getD-append b later 0 i (omega (arith, l)) in
-    let y = List·getD-append b later 0 (i + 1) (omega (arith, l)) in
-    let z = List·getD-append b later 0 (i + 2) (omega (arith, l)) in
-    let t = List·getD-append b later 0 (i + 3) l in
-    (λ j. fieldsFrom (b ++ later) (i + 4) (f (quad (x j) (y j) (z j) (t j)))) ∙ fields-more b later (i + 4) (f (quadAt b i)) (w (quadAt b i))
-fields-more b later i (make q) w = refl
-
 module _ (kind : ℕ) (rest : List ℕ) where
-  -- a whole request is read as the same one whatever follows
-  whole-first : (q : Request) → frameOf (kind ∷ rest) ≡ Whole q → (later : List ℕ) → frameOf (kind ∷ rest ++ later) ≡ Whole q
-  whole-first q e later = row-decides kind (rest ++ later) ∙ by (find rows kind) refl (sym (row-decides kind rest) ∙ e)
-    where
-      of-row : (r : Row) → Reads (length (kind ∷ rest)) r → (t : Bool) → leb (length (kind ∷ rest)) (r .length) ≡ t
-          → cond t Cut (Whole (fieldsFrom (kind ∷ rest) 1 (r .body))) ≡ Whole q → frameAt (at r) (kind ∷ rest ++ later) ≡ Whole q
-      of-row r within true l e = differ cc
-      of-row r within false l e =
-          let longer : r .length < length (kind ∷ rest) = leb-false (length (kind ∷ rest)) (r .length) l in
-          let still : leb (length (kind ∷ rest ++ later)) (r .length) ≡ false = lt-leb (length (kind ∷ rest ++ later)) (r .length) (omega (arith, longer, length-append rest later)) in
-          rw still (ap (λ (p : Request). Whole p) (fields-more (kind ∷ rest) later 1 (r .body) (within longer)) ∙ e)
-
-      by : (s : Sought) → find rows kind ≡ s → frameAt s (kind ∷ rest) ≡ Whole q → frameAt s (kind ∷ rest ++ later) ≡ Whole q
-      by none f e = differ cc
-      by (at r) f e = of-row r (found (Reads (length (kind ∷ rest))) kind r rows (all-within (length (kind ∷ rest))) f .holds) (leb (length (kind ∷ rest)) (r .length)) refl e
-
   unknown-first : frameOf (kind ∷ rest) ≡ Unknown → (later : List ℕ) → frameOf (kind ∷ rest ++ later) ≡ Unknown
   unknown-first e later = row-decides kind (rest ++ later) ∙ by (find rows kind) (sym (row-decides kind rest) ∙ e)
     where
@@ -119,17 +48,17 @@ module _ (kind : ℕ) (rest : List ℕ) where
   cut-short : frameOf (kind ∷ rest) ≡ Cut → length (kind ∷ rest) ≤ 8
   cut-short e = by (find rows kind) refl (sym (row-decides kind rest) ∙ e)
     where
-      of-row : (r : Row) → Short r → (t : Bool) → leb (length (kind ∷ rest)) (r .length) ≡ t → cond t Cut (Whole (fieldsFrom (kind ∷ rest) 1 (r .body))) ≡ Cut → length (kind ∷ rest) ≤ 8
+      of-row : (r : Row) → r .length ≤ 8 → (t : Bool) → leb (length (kind ∷ rest)) (r .length) ≡ t → cond t Cut (Whole (fieldsFrom (kind ∷ rest) 1 (r .body))) ≡ Cut → length (kind ∷ rest) ≤ 8
       of-row r short true l e = let h = leb-true (length (kind ∷ rest)) (r .length) l in omega (arith, h, short)
       of-row r short false l e = differ cc
 
       by : (s : Sought) → find rows kind ≡ s → frameAt s (kind ∷ rest) ≡ Cut → length (kind ∷ rest) ≤ 8
       by none f e = differ cc
-      by (at r) f e = of-row r (found Short kind r rows all-short f .holds) (leb (length (kind ∷ rest)) (r .length)) refl e
+      by (at r) f e = of-row r (short-found kind r rows tt f) (leb (length (kind ∷ rest)) (r .length)) refl e
 
 whole-more : (b : List ℕ) (q : Request) → frameOf b ≡ Whole q → (later : List ℕ) → frameOf (b ++ later) ≡ Whole q
 whole-more [] q e later = absurd (omega (arith, whole-is [] q e .inside))
-whole-more (kind ∷ rest) q e later = whole-first kind rest q e later
+whole-more (kind ∷ rest) q e later = frame-more (kind ∷ rest) later (omega arith) q e
 
 unknown-more : (b : List ℕ) → 0 < length b → frameOf b ≡ Unknown → (later : List ℕ) → frameOf (b ++ later) ≡ Unknown
 unknown-more [] l e later = absurd (omega (arith, l))

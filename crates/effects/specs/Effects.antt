@@ -1,4 +1,4 @@
--- The effect of every kind of request: 01's column "Granted effect", a clause a row.
+-- The effect of every kind of request: 01's column "Granted effect" and what 02 adds to it, a clause a row.
 use Prim.Native.Nat.{ℕ}
 use mathlib.Core.Bool.{cond, _&&_, not}
 use mathlib.Core.List.{List, map}
@@ -9,10 +9,10 @@ use Rattle.records.specs.Lookups.{findDraft, atFound, ofScript, placed}
 use Rattle.records.specs.declared.Script.{Script}
 use Rattle.records.specs.declared.Draft.{Draft}
 use Rattle.request.specs.declared.Request.{Request}
-use Rattle.request.specs.declared.Request.the-variants.{Enrol, Establish, JoinStaff, LeaveStaff, JoinOutsider, LeaveOutsider, Add, Remove, Import, Merge, Disband, OpenInRoom, OpenInHouse, OpenReadOnly, Read, Update, Create, Kill, TakeBack}
+use Rattle.leads.specs.Leads.{leading, leadEnded}
 use Rattle.sessions.specs.Sessions.{writing, reading, ended}
 use Rattle.sessions.specs.declared.Ending.the-variants.{OfRoom, OfMember, Uncovered}
-use Rattle.effects.specs.Elements.{enrolled, leading, joined, left, inNoRoom, hired, parted, createdBy, shut, draftOf, placedAt, unplaced}
+use Rattle.effects.specs.Elements.{enrolled, joined, left, inNoRoom, hired, parted, createdBy, shut, draftOf, placedAt, unplaced}
 use Rattle.effects.specs.declared.Change.{Change}
 
 -- ---- "So a draft that loses its last place is deleted, and a script that loses its last draft is deleted."
@@ -62,25 +62,27 @@ disbanded h room = swept (record {
 
 -- ---- every kind, with the draft number n that it received
 abbrev pub effect : House → ℕ → Request → House
-effect h n (Enrol u new sort level c admin) = putUser h new (enrolled sort level c admin)
-effect h n (Establish u room) = putRooms (putUser h u (leading room (user h u))) (with (h .rooms) room)
-effect h n (JoinStaff u w room) = putUser h w (joined room (user h w))
-effect h n (LeaveStaff u w room) = departed h w room
-effect h n (JoinOutsider u w room level c) = arrived h w room level c
-effect h n (LeaveOutsider u w room) = departed h w room
-effect h n (Add u s v room) = onDraft h s v (placedAt room)
-effect h n (Remove u s v room) = removed h s v room
-effect h n (Import u s₁ v s₂ room) = addDraft h (draftOf n s₂ (only house))
-effect h n (Merge u s v room) = onDraft h s v (placedAt house)
-effect h n (Disband u room) = disbanded h room
-effect h n (OpenInRoom u x room level c) = putSession h x (writing u level c room)
-effect h n (OpenInHouse u x level c) = putSession h x (writing u level c house)
-effect h n (OpenReadOnly u x level c) = putSession h x (reading u level c)
-effect h n (Read x s v) = h
-effect h n (Update x s v) = addDraft h (draftOf n s (only (session h x .place)))
-effect h n (Create x s) = addDraft (putScript h s (createdBy (session h x))) (draftOf n s (only (session h x .place)))
-effect h n (Kill u x) = putSession h x noSession
-effect h n (TakeBack u) = h
+effect h n (Request.Enrol u new sort level c admin) = putUser h new (enrolled sort level c admin)
+effect h n (Request.Establish u room) = putRooms (putUser h u (leading room (user h u))) (with (h .rooms) room)
+effect h n (Request.JoinStaff u w room) = putUser h w (joined room (user h w))
+effect h n (Request.LeaveStaff u w room) = departed h w room
+effect h n (Request.JoinOutsider u w room level c) = arrived h w room level c
+effect h n (Request.LeaveOutsider u w room) = departed h w room
+effect h n (Request.Add u s v room) = onDraft h s v (placedAt room)
+effect h n (Request.Remove u s v room) = removed h s v room
+effect h n (Request.Import u s₁ v s₂ room) = addDraft h (draftOf n s₂ (only house))
+effect h n (Request.Merge u s v room) = onDraft h s v (placedAt house)
+effect h n (Request.Disband u room) = disbanded h room
+effect h n (Request.MakeLead u w room) = putUser h w (leading room (user h w))
+effect h n (Request.EndLead u w room) = putUser h w (leadEnded room (user h w))
+effect h n (Request.OpenInRoom u x room level c) = putSession h x (writing u level c room)
+effect h n (Request.OpenInHouse u x level c) = putSession h x (writing u level c house)
+effect h n (Request.OpenReadOnly u x level c) = putSession h x (reading u level c)
+effect h n (Request.Read x s v) = h
+effect h n (Request.Update x s v) = addDraft h (draftOf n s (only (session h x .place)))
+effect h n (Request.Create x s) = addDraft (putScript h s (createdBy (session h x))) (draftOf n s (only (session h x .place)))
+effect h n (Request.Kill u x) = putSession h x noSession
+effect h n (Request.TakeBack u) = h
 
 -- a change: a request with the draft number that it received
 unfoldable pub applied : House → Change → House

@@ -1,4 +1,4 @@
--- What a granted request makes of one user, script or draft; of sessions, crates/sessions/specs/Sessions.antt. The quoted words are those of 01's column "Granted effect".
+-- What a granted request makes of one user, script or draft; of leads, crates/leads/specs/Leads.antt, of sessions, crates/sessions/specs/Sessions.antt. The quoted words are those of 01's column "Granted effect".
 use Prim.Native.Nat.{ℕ}
 use mathlib.Core.Bool.{Bool, true, false, cond, _&&_}
 use lib.Dec.{eqb}
@@ -17,10 +17,6 @@ enrolled sort level c admin = record { here = true; sort = sort; level = level; 
 abbrev pub withRooms : ℕ → ℕ → User → User
 withRooms rooms leads u =
     record { here = u .here; sort = u .sort; level = u .level; categories = u .categories; rooms = rooms; leads = leads; admin = u .admin }
-
--- "u leads it"
-abbrev pub leading : ℕ → User → User
-leading room u = withRooms (u .rooms) (with (u .leads) room) u
 
 -- "w joins"
 abbrev pub joined : ℕ → User → User

@@ -76,6 +76,8 @@ pub fn apply(records: &mut Cells, change: Change)
             room: _,
         } => add_place(records, script, v, 0),
         Request::Disband { u: _, room } => disband(records, room),
+        Request::MakeLead { u: _, w, room } => leads::make_lead(records, w, room),
+        Request::EndLead { u: _, w, room } => leads::end_lead(records, w, room),
         Request::OpenInRoom {
             u,
             session,

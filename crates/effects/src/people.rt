@@ -3,7 +3,8 @@ ghost use mathlib.Core.Path.{_≡_};
 ghost use mathlib.Core.List.{map};
 ghost use Rattle.records.specs.House.{view, user, putUser, putRooms, withUsers};
 ghost use Rattle.records.specs.Places.{with};
-ghost use Rattle.effects.specs.Elements.{enrolled, leading, joined, left, hired, parted};
+ghost use Rattle.leads.specs.Leads.{leading};
+ghost use Rattle.effects.specs.Elements.{enrolled, joined, left, hired, parted};
 ghost use Rattle.effects.specs.Effects.{departed, arrived, disbanded};
 use crate::texts::cut_places;
 use crate::texts::shut_scripts;
@@ -27,14 +28,6 @@ fn left(user: User, room: u8) -> User
     let mut member = user;
     member.rooms = records::without(user.rooms, room);
     member
-}
-
-fn leading(user: User, room: u8) -> User
-    ensures { λ r. ⌜ r ≡ leading room user ⌝ }
-{
-    let mut lead = user;
-    lead.leads = records::with(user.leads, room);
-    lead
 }
 
 // A freelancer; who is in a room already keeps the label.
@@ -82,9 +75,7 @@ pub fn enrol(records: &mut Cells, new: u8, sort: u8, level: u8, categories: u16,
 pub fn establish(records: &mut Cells, u: u8, room: u8)
     ensures { λ _. ⌜ view (now (records .exit)) ≡ putRooms (putUser (view (now (records .entry))) u (leading room (user (view (now (records .entry))) u))) (with (view (now (records .entry)) .rooms) room) ⌝ }
 {
-    let i = u as usize;
-    let user = records::user_at(records, i);
-    records::put_user(records, i, leading(user, room));
+    leads::make_lead(records, u, room);
     let rooms = records::with(records::rooms(records), room);
     records::put_rooms(records, rooms);
 }

@@ -3,13 +3,13 @@ use Prim.Native.Nat.{ℕ}
 use mathlib.Core.Path.{_≡_, refl, sym, ap, _∙_}
 use mathlib.Core.Bool.{Bool, true, false, _||_}
 use mathlib.Core.List.{List, [], _∷_, _++_}
+use mathlib.Core.Logic.{_⊎_, inl, inr}
 use Rattle.label.specs.declared.Parts.{Parts}
 use Rattle.label.specs.Labels.{parts, dominates}
 use Rattle.records.specs.House.{House, house, script}
 use Rattle.records.specs.declared.Rule.{Rule}
 use Rattle.conditions.specs.Conditions.{scriptLabel}
 use Rattle.request.specs.declared.Request.{Request}
-use Rattle.request.specs.declared.Request.the-variants.{Enrol, Establish, JoinStaff, LeaveStaff, JoinOutsider, LeaveOutsider, Add, Remove, Import, Merge, Disband, OpenInRoom, OpenInHouse, OpenReadOnly, Read, Update, Create, Kill, TakeBack}
 use Rattle.reasons.specs.Reasons.{Decided, aScript}
 use Rattle.reasons.specs.Asking.{Line, asked, both}
 use Rattle.reasons.specs.Lines.{anId, roomHigh, roomLow, userExists, roomExists, scriptExists, draftExists, leadsRoom, originIs, roomForDraft}
@@ -20,29 +20,16 @@ use Rattle.reasons.proofs.Asking.{more}
 use Rattle.judge.specs.declared.Ruling.{Ruling}
 use Rattle.judge.specs.declared.Ruling.the-variants.{KeepNumbered}
 use Rattle.judge.specs.Kinds.{importLines, linesOf, grantOf, grantIf, rulingOf}
-use Rattle.judge.specs.Amended.{IsImport, is-import, Amended, alike, refuses-9, refuses-16}
+use Rattle.judge.proofs.Rows.{fine}
+use Rattle.judge.specs.Amended.{IsImport, Amended, alike, refuses-9, refuses-16}
 
 -- ---- every other kind: the same lines by any two rules, so the same ruling
 pub lines-alike : (r s : Rule) (h : House) (q : Request) → (IsImport q → ⊥) → linesOf r h q ≡ linesOf s h q
-lines-alike r s h (Enrol u new sort level c admin) other = refl
-lines-alike r s h (Establish u room) other = refl
-lines-alike r s h (JoinStaff u w room) other = refl
-lines-alike r s h (LeaveStaff u w room) other = refl
-lines-alike r s h (JoinOutsider u w room level c) other = refl
-lines-alike r s h (LeaveOutsider u w room) other = refl
-lines-alike r s h (Add u k v room) other = refl
-lines-alike r s h (Remove u k v room) other = refl
-lines-alike r s h (Import u k₁ v k₂ room) other = absurd (other (is-import u k₁ v k₂ room))
-lines-alike r s h (Merge u k v room) other = refl
-lines-alike r s h (Disband u room) other = refl
-lines-alike r s h (OpenInRoom u x room level c) other = refl
-lines-alike r s h (OpenInHouse u x level c) other = refl
-lines-alike r s h (OpenReadOnly u x level c) other = refl
-lines-alike r s h (Read x k v) other = refl
-lines-alike r s h (Update x k v) other = refl
-lines-alike r s h (Create x k) other = refl
-lines-alike r s h (Kill u x) other = refl
-lines-alike r s h (TakeBack u) other = refl
+lines-alike r s h q other = go (fine q r h .6)
+  where
+    go : IsImport q ⊎ ((t : Rule) → linesOf r h q ≡ linesOf t h q) → linesOf r h q ≡ linesOf s h q
+    go (inl i) = absurd (other i)
+    go (inr same) = same s
 
 pub judged-alike : (r s : Rule) (h : House) (q : Request) → (IsImport q → ⊥) → rulingOf r h q ≡ rulingOf s h q
 unfolding rulingOf
@@ -82,11 +69,11 @@ module _ (h : House) (u k₁ v k₂ room : ℕ) where
       ∷ originIs h k₂ house
       ∷ []
 
-  behind : (rule : Rule) → rulingOf rule h (Import u k₁ v k₂ room) ≡ grantIf KeepNumbered (both (asked front) (asked (imports rule h k₁ k₂ ++ (roomForDraft h ∷ []))))
+  behind : (rule : Rule) → rulingOf rule h (Request.Import u k₁ v k₂ room) ≡ grantIf KeepNumbered (both (asked front) (asked (imports rule h k₁ k₂ ++ (roomForDraft h ∷ []))))
   unfolding rulingOf importLines front
   behind rule = ap (grantIf KeepNumbered) (more front (imports rule h k₁ k₂ ++ (roomForDraft h ∷ [])))
 
-  pub import-amended : Amended (rulingOf Rule.One h (Import u k₁ v k₂ room)) (rulingOf Rule.Two h (Import u k₁ v k₂ room))
+  pub import-amended : Amended (rulingOf Rule.One h (Request.Import u k₁ v k₂ room)) (rulingOf Rule.Two h (Request.Import u k₁ v k₂ room))
   unfolding imports
   import-amended =
       let x = script h k₂ in

@@ -2,24 +2,22 @@
 -- applies, by the order of refusals.
 use Prim.Native.Nat.{ℕ, _≤_}
 use mathlib.Core.Path.{_≡_, refl, sym, ap, _∙_}
-use mathlib.Core.Bool.{true}
-use mathlib.Core.List.{List}
+use mathlib.Core.Bool.{true, false}
+use mathlib.Core.List.{List, [], _∷_}
 use native.Mathlib.Omega.{arith}
 use lib.Dec.{eqb}
-use Rattle.records.specs.Lists.{any, all}
+use Rattle.records.specs.Lists.{any}
 use Rattle.records.specs.House.{House, emptyHouse}
 use Rattle.records.specs.declared.Rule.{Rule}
 use Rattle.request.specs.declared.Request.{Request}
-use Rattle.request.specs.declared.Request.the-variants.{Enrol, Establish, JoinStaff, LeaveStaff, JoinOutsider, LeaveOutsider, Add, Remove, Import, Merge, Disband, OpenInRoom, OpenInHouse, OpenReadOnly, Read, Update, Create, Kill, TakeBack}
 use Rattle.reasons.specs.Asking.{Line, asked, AllHold, FirstFailing, Failing, numbers, onceAfter}
 use Rattle.reasons.specs.Order.{rank, ascendFrom}
-use Rattle.reasons.specs.Shared.{pairNumbers, pairLed, draftLed, opens, covers, asScript, imports, draftAsked}
 use Rattle.reasons.specs.declared.Reason.{Reason}
-use Rattle.reasons.proofs.Order.{all-hold, first-fails, Verdict, grant, refusal, verdict, lowest, once-ascends, holds-at}
+use Rattle.reasons.proofs.Order.{all-hold, first-fails, Verdict, grant, refusal, verdict, lowest, ascend-front, once-ascends, holds-at}
 use Rattle.judge.specs.declared.Ruling.{Ruling}
 use Rattle.judge.specs.declared.Ruling.the-variants.{Refused}
-use Rattle.judge.specs.Kinds.{enrolWhere, establishLines, importLines, disbandLines, createLines, killLines, takeBackLines, linesOf, grantOf, grantIf, rulingOf}
-use Rattle.judge.specs.Table.{refusals}
+use Rattle.judge.specs.Kinds.{linesOf, grantOf, refusals, grantIf, rulingOf}
+use Rattle.judge.proofs.Rows.{refuses, fine}
 
 -- ---- of every list of lines, judged for a grant g
 module _ (g : Ruling) where
@@ -49,50 +47,16 @@ module _ (g : Ruling) (is-grant : (r : Reason) → g ≡ Refused r → ⊥) (ls 
           let z : s ≡ r = cc (first-refused g f) in
           rw (sym z) f
 
+-- ---- of every house and request
 -- the numbers of every kind's lines ascend in the order of refusals
 pub lines-ascend : (rule : Rule) (h : House) (q : Request) → ascendFrom 0 (numbers (linesOf rule h q)) ≡ true
-unfolding enrolWhere establishLines pairNumbers pairLed draftLed importLines disbandLines opens covers asScript imports draftAsked createLines killLines takeBackLines
-lines-ascend rule h (Enrol u new sort level c admin) = refl
-lines-ascend rule h (Establish u room) = refl
-lines-ascend rule h (JoinStaff u w room) = refl
-lines-ascend rule h (LeaveStaff u w room) = refl
-lines-ascend rule h (JoinOutsider u w room level c) = refl
-lines-ascend rule h (LeaveOutsider u w room) = refl
-lines-ascend rule h (Add u s v room) = refl
-lines-ascend rule h (Remove u s v room) = refl
-lines-ascend rule h (Import u s₁ v s₂ room) = refl
-lines-ascend rule h (Merge u s v room) = refl
-lines-ascend rule h (Disband u room) = refl
-lines-ascend rule h (OpenInRoom u s room level c) = refl
-lines-ascend rule h (OpenInHouse u s level c) = refl
-lines-ascend rule h (OpenReadOnly u s level c) = refl
-lines-ascend rule h (Read s k v) = refl
-lines-ascend rule h (Update s k v) = refl
-lines-ascend rule h (Create s k) = refl
-lines-ascend rule h (Kill u s) = refl
-lines-ascend rule h (TakeBack u) = refl
+lines-ascend rule h q = ascend-front 0 (numbers (linesOf rule h q)) (11 ∷ 12 ∷ []) (fine q rule h .0)
 
--- ---- of every house and request
 pub grant-is-none : (q : Request) (r : Reason) → grantOf q ≡ Refused r → ⊥
-grant-is-none (Enrol u new sort level c admin) r e = let z : _≡_ {A = ℕ} 0 1 = cc in omega arith
-grant-is-none (Establish u room) r e = let z : _≡_ {A = ℕ} 0 1 = cc in omega arith
-grant-is-none (JoinStaff u w room) r e = let z : _≡_ {A = ℕ} 0 1 = cc in omega arith
-grant-is-none (LeaveStaff u w room) r e = let z : _≡_ {A = ℕ} 0 1 = cc in omega arith
-grant-is-none (JoinOutsider u w room level c) r e = let z : _≡_ {A = ℕ} 0 1 = cc in omega arith
-grant-is-none (LeaveOutsider u w room) r e = let z : _≡_ {A = ℕ} 0 1 = cc in omega arith
-grant-is-none (Add u s v room) r e = let z : _≡_ {A = ℕ} 0 1 = cc in omega arith
-grant-is-none (Remove u s v room) r e = let z : _≡_ {A = ℕ} 0 1 = cc in omega arith
-grant-is-none (Import u s₁ v s₂ room) r e = let z : _≡_ {A = ℕ} 0 1 = cc in omega arith
-grant-is-none (Merge u s v room) r e = let z : _≡_ {A = ℕ} 0 1 = cc in omega arith
-grant-is-none (Disband u room) r e = let z : _≡_ {A = ℕ} 0 1 = cc in omega arith
-grant-is-none (OpenInRoom u s room level c) r e = let z : _≡_ {A = ℕ} 0 1 = cc in omega arith
-grant-is-none (OpenInHouse u s level c) r e = let z : _≡_ {A = ℕ} 0 1 = cc in omega arith
-grant-is-none (OpenReadOnly u s level c) r e = let z : _≡_ {A = ℕ} 0 1 = cc in omega arith
-grant-is-none (Read s k v) r e = let z : _≡_ {A = ℕ} 0 1 = cc in omega arith
-grant-is-none (Update s k v) r e = let z : _≡_ {A = ℕ} 0 1 = cc in omega arith
-grant-is-none (Create s k) r e = let z : _≡_ {A = ℕ} 0 1 = cc in omega arith
-grant-is-none (Kill u s) r e = let z : _≡_ {A = ℕ} 0 1 = cc in omega arith
-grant-is-none (TakeBack u) r e = let z : _≡_ {A = ℕ} 0 1 = cc in omega arith
+grant-is-none q r e = go (sym (fine q Rule.One emptyHouse .5) ∙ ap refuses e)
+  where
+    go : false ≡ true → ⊥
+    go e = let z : _≡_ {A = ℕ} 0 1 = cc in omega arith
 
 module _ (rule : Rule) (h : House) (q : Request) where
   -- granted exactly where every fact of the kind holds
@@ -112,53 +76,12 @@ module _ (rule : Rule) (h : House) (q : Request) where
 -- ---- the table of refusals
 -- a kind's row has the numbers of its lines, each once
 pub row-exact : (rule : Rule) (h : House) (q : Request) → onceAfter 0 (numbers (linesOf rule h q)) ≡ refusals q
-unfolding enrolWhere establishLines pairNumbers pairLed draftLed importLines disbandLines opens covers asScript imports draftAsked createLines killLines takeBackLines
-row-exact rule h (Enrol u new sort level c admin) = refl
-row-exact rule h (Establish u room) = refl
-row-exact rule h (JoinStaff u w room) = refl
-row-exact rule h (LeaveStaff u w room) = refl
-row-exact rule h (JoinOutsider u w room level c) = refl
-row-exact rule h (LeaveOutsider u w room) = refl
-row-exact rule h (Add u s v room) = refl
-row-exact rule h (Remove u s v room) = refl
-row-exact rule h (Import u s₁ v s₂ room) = refl
-row-exact rule h (Merge u s v room) = refl
-row-exact rule h (Disband u room) = refl
-row-exact rule h (OpenInRoom u s room level c) = refl
-row-exact rule h (OpenInHouse u s level c) = refl
-row-exact rule h (OpenReadOnly u s level c) = refl
-row-exact rule h (Read s k v) = refl
-row-exact rule h (Update s k v) = refl
-row-exact rule h (Create s k) = refl
-row-exact rule h (Kill u s) = refl
-row-exact rule h (TakeBack u) = refl
+row-exact rule h q = fine q rule h .1
 
 -- and they ascend in the order of refusals
 pub row-ascends : (q : Request) → ascendFrom 0 (refusals q) ≡ true
 row-ascends q = rw (← row-exact Rule.One emptyHouse q) (once-ascends 0 0 (numbers (linesOf Rule.One emptyHouse q)) (lines-ascend Rule.One emptyHouse q))
 
-rows-hold : (rule : Rule) (h : House) (q : Request) → all (λ n. any (eqb n) (refusals q)) (numbers (linesOf rule h q)) ≡ true
-unfolding enrolWhere establishLines pairNumbers pairLed draftLed importLines disbandLines opens covers asScript imports draftAsked createLines killLines takeBackLines
-rows-hold rule h (Enrol u new sort level c admin) = refl
-rows-hold rule h (Establish u room) = refl
-rows-hold rule h (JoinStaff u w room) = refl
-rows-hold rule h (LeaveStaff u w room) = refl
-rows-hold rule h (JoinOutsider u w room level c) = refl
-rows-hold rule h (LeaveOutsider u w room) = refl
-rows-hold rule h (Add u s v room) = refl
-rows-hold rule h (Remove u s v room) = refl
-rows-hold rule h (Import u s₁ v s₂ room) = refl
-rows-hold rule h (Merge u s v room) = refl
-rows-hold rule h (Disband u room) = refl
-rows-hold rule h (OpenInRoom u s room level c) = refl
-rows-hold rule h (OpenInHouse u s level c) = refl
-rows-hold rule h (OpenReadOnly u s level c) = refl
-rows-hold rule h (Read s k v) = refl
-rows-hold rule h (Update s k v) = refl
-rows-hold rule h (Create s k) = refl
-rows-hold rule h (Kill u s) = refl
-rows-hold rule h (TakeBack u) = refl
-
 -- a kind is refused only with a number of its row
 pub refused-by-table : (rule : Rule) (h : House) (q : Request) (r : Reason) → rulingOf rule h q ≡ Refused r → any (eqb (r .number)) (refusals q) ≡ true
-refused-by-table rule h q r e = holds-at (λ m. any (eqb m) (refusals q)) (rows-hold rule h q) (refused-exactly rule h q r .0 e)
+refused-by-table rule h q r e = holds-at (λ m. any (eqb m) (refusals q)) (fine q rule h .2) (refused-exactly rule h q r .0 e)

@@ -3,26 +3,26 @@ use Prim.Native.Nat.{ℕ}
 use mathlib.Core.Path.{_≡_, refl, sym, _∙_}
 use mathlib.Core.Bool.{Bool, true, false, not, _&&_, _||_}
 use mathlib.Core.List.{List, [], _∷_, _++_}
-use borrow.Author.Tests.{not-true, not-false, eqb-true, ltb-true, ltb-false}
+use borrow.Author.Tests.{not-true, not-false, eqb-true, leb-false, ltb-true, ltb-false}
 use native.Mathlib.Omega.{arith}
 use lib.Dec.{eqb}
 use Rattle.label.proofs.Dominance.{level-differs, categories-differ}
+use Rattle.leads.specs.Leads.{leadCount}
 use Rattle.records.specs.House.{House, house, staff, user, script, session, draftAt}
 use Rattle.records.specs.Lookups.{findDraft, draft}
 use Rattle.records.specs.declared.Found.{Found}
 use Rattle.records.specs.declared.Found.the-variants.{At, Nothing}
 use Rattle.records.proofs.Lookups.{found-draft, found-is, found-below, no-draft}
-use Rattle.conditions.specs.Conditions.{noUsers, isUser, isScript, isSession, isDraft}
+use Rattle.conditions.specs.Conditions.{noUsers, isUser, isRoom, isScript, isSession, isDraft}
 use Rattle.conditions.proofs.Labels.{level-alike}
 use Rattle.fields.specs.Fields.{isFirst}
 use Rattle.records.specs.declared.Rule.{Rule}
 use Rattle.request.specs.declared.Request.{Request}
-use Rattle.request.specs.declared.Request.the-variants.{Enrol, Establish, JoinStaff, LeaveStaff, JoinOutsider, LeaveOutsider, Add, Remove, Import, Merge, Disband, OpenInRoom, OpenInHouse, OpenReadOnly, Read, Update, Create, Kill, TakeBack}
 use Rattle.reasons.specs.Reasons.{noRecord, reason}
 use Rattle.reasons.specs.Asking.{Line, _unless_, _because_, FirstFailing, here, later}
 use Rattle.reasons.specs.Lines.{aLevel}
 use Rattle.reasons.specs.Shared.{pairNumbers, pairLed, draftLed, opens, covers, asScript, imports, draftAsked}
-use Rattle.reasons.specs.Told.{Live, Told, over63, over16, under1, over7, noSort, noYesNo, notPlain, noUser, noRoom, noScript, noSession, noDraft, userIs, roomIs, sessionIs, scriptIs, notFirst, noAdmin, leadsNot, endsNot, noStaff, staffIs, noFreelancer, readsOnly, inAlready, notIn, notAmong, isAmong, unseen, notSeated, otherOrigin, levelAbove, categoriesMore, levelUnder, categoriesLack, levelOther, categoriesOther, levelUnlike, categoriesUnlike, levelBelow, categoriesFewer, full}
+use Rattle.reasons.specs.Told.{Live, Told, over63, over16, under1, over7, noSort, noYesNo, notPlain, noUser, noRoom, noScript, noSession, noDraft, userIs, roomIs, sessionIs, scriptIs, notFirst, noAdmin, leadsNot, endsNot, noStaff, staffIs, noFreelancer, readsOnly, inAlready, notIn, leadsAlready, noLead, onlyLead, notAmong, isAmong, unseen, notSeated, otherOrigin, levelAbove, categoriesMore, levelUnder, categoriesLack, levelOther, categoriesOther, levelUnlike, categoriesUnlike, levelBelow, categoriesFewer, full}
 use Rattle.reasons.specs.declared.Reason.{Reason}
 use Rattle.judge.specs.declared.Ruling.the-variants.{Refused}
 use Rattle.judge.specs.Kinds.{enrolWhere, establishLines, importLines, disbandLines, createLines, killLines, takeBackLines, enrolLines, linesOf, rulingOf}
@@ -78,15 +78,15 @@ module _ (rule : Rule) (h : House) where
       (over63 u, λ _. (over63 new, λ _. (over7 level, λ _. (noSort sort, λ _. (noYesNo admin, λ _. (notPlain sort level, λ _. (notPlain sort c, λ _. (notPlain sort admin, λ _. (λ e. noUser u (or-false (noUsers h) _ e .1), λ a. (λ e. userIs new (not-false _ e), λ _. (of-the-first u new, λ _. (of-the-first sort staff, λ _. (of-the-first admin 1, λ _. (λ e. noAdmin u (or-right (noUsers h) _ a (or-false (noUsers h) _ e .0)) (or-false (noUsers h) _ e .1), λ _. tt))))))))))))))
 
   -- what kinds have in common, and then what is their own
-  sound-found : (u w room : ℕ) (own : List Line) → (isUser h w ≡ true → Sound (Told rule h) own) → Sound (Told rule h) (pairLed h u w room ++ own)
+  sound-found : (u w room : ℕ) (own : List Line) → (isUser h w ≡ true → isRoom h room ≡ true → Sound (Told rule h) own) → Sound (Told rule h) (pairLed h u w room ++ own)
   unfolding pairLed
-  sound-found u w room own s = (noUser u, λ a. (noUser w, λ b. (noRoom room, λ _. (leadsNot u room a, λ _. s b))))
+  sound-found u w room own s = (noUser u, λ a. (noUser w, λ b. (noRoom room, λ r. (leadsNot u room a, λ _. s b r))))
 
-  sound-pair : (u w room : ℕ) (own : List Line) → (isUser h w ≡ true → Sound (Told rule h) own) → Sound (Told rule h) (pairNumbers u w room ++ pairLed h u w room ++ own)
+  sound-pair : (u w room : ℕ) (own : List Line) → (isUser h w ≡ true → isRoom h room ≡ true → Sound (Told rule h) own) → Sound (Told rule h) (pairNumbers u w room ++ pairLed h u w room ++ own)
   unfolding pairNumbers
   sound-pair u w room own s = (over63 u, λ _. (over63 w, λ _. (over16 room, λ _. (under1 room, λ _. sound-found u w room own s))))
 
-  sound-outsider : (u w room level : ℕ) (own : List Line) → (isUser h w ≡ true → Sound (Told rule h) own) → Sound (Told rule h) (pairNumbers u w room ++ (aLevel level ∷ []) ++ pairLed h u w room ++ own)
+  sound-outsider : (u w room level : ℕ) (own : List Line) → (isUser h w ≡ true → isRoom h room ≡ true → Sound (Told rule h) own) → Sound (Told rule h) (pairNumbers u w room ++ (aLevel level ∷ []) ++ pairLed h u w room ++ own)
   unfolding pairNumbers
   sound-outsider u w room level own s = (over63 u, λ _. (over63 w, λ _. (over16 room, λ _. (under1 room, λ _. (over7 level, λ _. sound-found u w room own s)))))
 
@@ -149,25 +149,27 @@ module _ (rule : Rule) (h : House) where
 
   sound-lines : (q : Request) → Sound (Told rule h) (linesOf rule h q)
   unfolding establishLines importLines disbandLines createLines killLines takeBackLines
-  sound-lines (Enrol u new sort level c admin) = sound-enrol u new sort level c admin
-  sound-lines (Establish u room) = (over63 u, λ _. (over16 room, λ _. (under1 room, λ _. (noUser u, λ a. (λ e. roomIs room (not-false _ e), λ _. (noAdmin u a, λ _. tt))))))
-  sound-lines (JoinStaff u w room) = sound-pair u w room _ (λ b. (noStaff w b, λ _. (λ e. inAlready w room b (not-false _ e), λ _. tt)))
-  sound-lines (LeaveStaff u w room) = sound-pair u w room _ (λ b. (noStaff w b, λ _. (notIn w room b, λ _. tt)))
-  sound-lines (JoinOutsider u w room level c) = sound-outsider u w room level _ (λ b. (λ e. staffIs w b (not-false _ e), λ _. (λ e. inAlready w room b (not-false _ e), λ _. tt)))
-  sound-lines (LeaveOutsider u w room) = sound-pair u w room _ (λ b. (noFreelancer w b, λ _. (notIn w room b, λ _. tt)))
-  sound-lines (Add u k v room) = sound-led u k v room _ (λ _ l. (notAmong v (draft h k v) house l, λ _. (λ e. isAmong v (draft h k v) room l (not-false _ e), λ _. tt)))
-  sound-lines (Remove u k v room) = sound-led u k v room _ (λ _ l. (notAmong v (draft h k v) room l, λ _. tt))
-  sound-lines (Import u k₁ v k₂ room) = (over63 u, λ _. (over63 k₁, λ _. (over63 k₂, λ _. (over16 room, λ _. (under1 room, λ _. (noUser u, λ a. (noRoom room, λ _. (noScript k₁, λ s. (noScript k₂, λ t. (noDraft k₁ v, λ _. (leadsNot u room a, λ _. (otherOrigin k₁ room s, λ _. (otherOrigin k₂ house t, λ _. sound-imports rule refl k₁ k₂ _ s t (full, λ _. tt))))))))))))))
-  sound-lines (Merge u k v room) = sound-led u k v room _ (λ t l. (notAmong v (draft h k v) room l, λ _. (otherOrigin k house t, λ _. tt)))
-  sound-lines (Disband u room) = (over63 u, λ _. (over16 room, λ _. (under1 room, λ _. (noUser u, λ a. (noRoom room, λ _. (leadsNot u room a, λ _. tt))))))
-  sound-lines (OpenInRoom u s room level c) = (over63 u, λ _. (over63 s, λ _. (over16 room, λ _. (under1 room, λ _. (over7 level, λ _. (noUser u, λ a. (noRoom room, λ _. (λ e. sessionIs s (not-false _ e), λ _. (notIn u room a, λ _. sound-opens u level c a)))))))))
-  sound-lines (OpenInHouse u s level c) = (over63 u, λ _. (over63 s, λ _. (over7 level, λ _. (noUser u, λ a. (λ e. sessionIs s (not-false _ e), λ _. (noStaff u a, λ _. sound-opens u level c a))))))
-  sound-lines (OpenReadOnly u s level c) = (over63 u, λ _. (over63 s, λ _. (over7 level, λ _. (noUser u, λ a. (λ e. sessionIs s (not-false _ e), λ _. sound-opens u level c a)))))
-  sound-lines (Read s k v) = sound-asked s k v _ (λ a b l. (unseen s v (draft h k v) b l, λ _. sound-covers s k b a))
-  sound-lines (Update s k v) = sound-asked s k v _ (λ a b l. (readsOnly s b, λ _. (notSeated s v (draft h k v) b l, λ _. sound-as-script s k _ b a (full, λ _. tt))))
-  sound-lines (Create s k) = (over63 k, λ _. (over63 s, λ _. (noSession s, λ b. (λ e. scriptIs k (not-false _ e), λ _. (readsOnly s b, λ _. (full, λ _. tt))))))
-  sound-lines (Kill u s) = (over63 u, λ _. (over63 s, λ _. (noUser u, λ _. (noSession s, λ b. (endsNot u s b, λ _. tt)))))
-  sound-lines (TakeBack u) = (over63 u, λ _. (noUser u, λ a. (noAdmin u a, λ _. tt)))
+  sound-lines (Request.Enrol u new sort level c admin) = sound-enrol u new sort level c admin
+  sound-lines (Request.Establish u room) = (over63 u, λ _. (over16 room, λ _. (under1 room, λ _. (noUser u, λ a. (λ e. roomIs room (not-false _ e), λ _. (noAdmin u a, λ _. tt))))))
+  sound-lines (Request.JoinStaff u w room) = sound-pair u w room _ (λ b _. (noStaff w b, λ _. (λ e. inAlready w room b (not-false _ e), λ _. tt)))
+  sound-lines (Request.LeaveStaff u w room) = sound-pair u w room _ (λ b _. (noStaff w b, λ _. (notIn w room b, λ _. tt)))
+  sound-lines (Request.JoinOutsider u w room level c) = sound-outsider u w room level _ (λ b _. (λ e. staffIs w b (not-false _ e), λ _. (λ e. inAlready w room b (not-false _ e), λ _. tt)))
+  sound-lines (Request.LeaveOutsider u w room) = sound-pair u w room _ (λ b _. (noFreelancer w b, λ _. (notIn w room b, λ _. tt)))
+  sound-lines (Request.Add u k v room) = sound-led u k v room _ (λ _ l. (notAmong v (draft h k v) house l, λ _. (λ e. isAmong v (draft h k v) room l (not-false _ e), λ _. tt)))
+  sound-lines (Request.Remove u k v room) = sound-led u k v room _ (λ _ l. (notAmong v (draft h k v) room l, λ _. tt))
+  sound-lines (Request.Import u k₁ v k₂ room) = (over63 u, λ _. (over63 k₁, λ _. (over63 k₂, λ _. (over16 room, λ _. (under1 room, λ _. (noUser u, λ a. (noRoom room, λ _. (noScript k₁, λ s. (noScript k₂, λ t. (noDraft k₁ v, λ _. (leadsNot u room a, λ _. (otherOrigin k₁ room s, λ _. (otherOrigin k₂ house t, λ _. sound-imports rule refl k₁ k₂ _ s t (full, λ _. tt))))))))))))))
+  sound-lines (Request.Merge u k v room) = sound-led u k v room _ (λ t l. (notAmong v (draft h k v) room l, λ _. (otherOrigin k house t, λ _. tt)))
+  sound-lines (Request.Disband u room) = (over63 u, λ _. (over16 room, λ _. (under1 room, λ _. (noUser u, λ a. (noRoom room, λ _. (leadsNot u room a, λ _. tt))))))
+  sound-lines (Request.MakeLead u w room) = sound-pair u w room _ (λ b _. (noStaff w b, λ _. (λ e. leadsAlready w room b (not-false _ e), λ _. tt)))
+  sound-lines (Request.EndLead u w room) = sound-pair u w room _ (λ b r. (noStaff w b, λ _. (noLead w room b, λ _. (λ e. onlyLead room r (leb-false 2 (leadCount h room) e), λ _. tt))))
+  sound-lines (Request.OpenInRoom u s room level c) = (over63 u, λ _. (over63 s, λ _. (over16 room, λ _. (under1 room, λ _. (over7 level, λ _. (noUser u, λ a. (noRoom room, λ _. (λ e. sessionIs s (not-false _ e), λ _. (notIn u room a, λ _. sound-opens u level c a)))))))))
+  sound-lines (Request.OpenInHouse u s level c) = (over63 u, λ _. (over63 s, λ _. (over7 level, λ _. (noUser u, λ a. (λ e. sessionIs s (not-false _ e), λ _. (noStaff u a, λ _. sound-opens u level c a))))))
+  sound-lines (Request.OpenReadOnly u s level c) = (over63 u, λ _. (over63 s, λ _. (over7 level, λ _. (noUser u, λ a. (λ e. sessionIs s (not-false _ e), λ _. sound-opens u level c a)))))
+  sound-lines (Request.Read s k v) = sound-asked s k v _ (λ a b l. (unseen s v (draft h k v) b l, λ _. sound-covers s k b a))
+  sound-lines (Request.Update s k v) = sound-asked s k v _ (λ a b l. (readsOnly s b, λ _. (notSeated s v (draft h k v) b l, λ _. sound-as-script s k _ b a (full, λ _. tt))))
+  sound-lines (Request.Create s k) = (over63 k, λ _. (over63 s, λ _. (noSession s, λ b. (λ e. scriptIs k (not-false _ e), λ _. (readsOnly s b, λ _. (full, λ _. tt))))))
+  sound-lines (Request.Kill u s) = (over63 u, λ _. (over63 s, λ _. (noUser u, λ _. (noSession s, λ b. (endsNot u s b, λ _. tt)))))
+  sound-lines (Request.TakeBack u) = (over63 u, λ _. (noUser u, λ a. (noAdmin u a, λ _. tt)))
 
   -- "the condition named is false of those records": every reason is true of the present records
   pub first-told : (q : Request) (r : Reason) → FirstFailing r (linesOf rule h q) → Told rule h r

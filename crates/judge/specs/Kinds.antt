@@ -3,14 +3,15 @@
 use Prim.Native.Nat.{ℕ}
 use mathlib.Core.Bool.{Bool}
 use mathlib.Core.List.{List, [], _∷_, _++_}
-use Rattle.records.specs.House.{House, house, staff}
+use Rattle.label.specs.declared.Parts.{Parts}
+use Rattle.label.specs.Labels.{none}
+use Rattle.records.specs.House.{House, house, staff, user, script, session}
 use Rattle.records.specs.Lookups.{draft}
 use Rattle.records.specs.declared.Rule.{Rule}
 use Rattle.request.specs.declared.Request.{Request}
-use Rattle.request.specs.declared.Request.the-variants.{Enrol, Establish, JoinStaff, LeaveStaff, JoinOutsider, LeaveOutsider, Add, Remove, Import, Merge, Disband, OpenInRoom, OpenInHouse, OpenReadOnly, Read, Update, Create, Kill, TakeBack}
-use Rattle.conditions.specs.Conditions.{noUsers}
+use Rattle.conditions.specs.Conditions.{noUsers, opening, reading, updating, importing}
 use Rattle.reasons.specs.Asking.{Line, asked}
-use Rattle.reasons.specs.Lines.{anId, roomHigh, roomLow, aLevel, aSort, aYesNo, plain, userExists, enrollerExists, roomExists, scriptExists, sessionExists, draftExists, userNew, roomNew, sessionNew, scriptNew, firstHas, enrolls, administers, leadsRoom, endsSession, ofStaff, notOfStaff, aFreelancer, writesIn, notYetIn, inRoom, draftAmong, draftNotAmong, seesDraft, seatedAt, originIs, roomForDraft}
+use Rattle.reasons.specs.Lines.{anId, roomHigh, roomLow, aLevel, aSort, aYesNo, plain, userExists, enrollerExists, roomExists, scriptExists, sessionExists, draftExists, userNew, roomNew, sessionNew, scriptNew, firstHas, enrolls, administers, leadsRoom, endsSession, ofStaff, notOfStaff, aFreelancer, writesIn, notYetIn, inRoom, notYetLead, isLead, anotherLead, draftAmong, draftNotAmong, seesDraft, seatedAt, originIs, roomForDraft}
 use Rattle.reasons.specs.Shared.{pairNumbers, pairLed, draftLed, opens, covers, asScript, imports, draftAsked}
 use Rattle.reasons.specs.declared.Asked.{Asked}
 use Rattle.reasons.specs.declared.Asked.the-variants.{Holds, Fails}
@@ -85,6 +86,13 @@ mergeLines h u k v room = draftLed h u k v room ++ (draftAmong v (draft h k v) r
 unfoldable pub disbandLines : House → ℕ → ℕ → List Line
 disbandLines h u room = anId u ∷ roomHigh room ∷ roomLow room ∷ userExists h u ∷ roomExists h room ∷ leadsRoom h u room ∷ []
 
+-- 02, L6
+abbrev pub makeLeadLines : House → ℕ → ℕ → ℕ → List Line
+makeLeadLines h u w room = pairNumbers u w room ++ pairLed h u w room ++ (ofStaff h w ∷ notYetLead h w room ∷ [])
+
+abbrev pub endLeadLines : House → ℕ → ℕ → ℕ → List Line
+endLeadLines h u w room = pairNumbers u w room ++ pairLed h u w room ++ (ofStaff h w ∷ isLead h w room ∷ anotherLead h room ∷ [])
+
 abbrev pub openInRoomLines : House → ℕ → ℕ → ℕ → ℕ → ℕ → List Line
 openInRoomLines h u s room level c =
     anId u
@@ -121,49 +129,63 @@ killLines h u s = anId u ∷ anId s ∷ userExists h u ∷ sessionExists h s ∷
 unfoldable pub takeBackLines : House → ℕ → List Line
 takeBackLines h u = anId u ∷ userExists h u ∷ administers h u ∷ []
 
--- ---- every kind: its conditions under the rule, and what it is granted where all hold
-abbrev pub linesOf : Rule → House → Request → List Line
-linesOf rule h (Enrol u new sort level c admin) = enrolLines h u new sort level c admin
-linesOf rule h (Establish u room) = establishLines h u room
-linesOf rule h (JoinStaff u w room) = joinStaffLines h u w room
-linesOf rule h (LeaveStaff u w room) = leaveStaffLines h u w room
-linesOf rule h (JoinOutsider u w room level c) = joinOutsiderLines h u w room level
-linesOf rule h (LeaveOutsider u w room) = leaveOutsiderLines h u w room
-linesOf rule h (Add u k v room) = addLines h u k v room
-linesOf rule h (Remove u k v room) = removeLines h u k v room
-linesOf rule h (Import u k₁ v k₂ room) = importLines rule h u k₁ v k₂ room
-linesOf rule h (Merge u k v room) = mergeLines h u k v room
-linesOf rule h (Disband u room) = disbandLines h u room
-linesOf rule h (OpenInRoom u s room level c) = openInRoomLines h u s room level c
-linesOf rule h (OpenInHouse u s level c) = openInHouseLines h u s level c
-linesOf rule h (OpenReadOnly u s level c) = openReadOnlyLines h u s level c
-linesOf rule h (Read s k v) = readLines h s k v
-linesOf rule h (Update s k v) = updateLines h s k v
-linesOf rule h (Create s k) = createLines h s k
-linesOf rule h (Kill u s) = killLines h u s
-linesOf rule h (TakeBack u) = takeBackLines h u
+-- ---- every kind, a row each
+-- What it is granted where all its conditions hold: "Kept changes: every granted request but Read and Take back."; "granted with a draft number (09, 14, 15)". Which
+-- refusals it can have from the judge, in the order of refusals: 1 and 2 are given before a request is whole, 11 and 12 by whoever keeps the changes, 13 by the
+-- batch. Its conditions, and the parts of labels that fail or differ, on a desk under the rule.
+pub record Kind : Type 0 where
+  pub grant : Ruling
+  pub refusals : List ℕ
+  pub lines : Rule → House → List Line
+  pub compared : Rule → House → Parts
 
--- "Kept changes: every granted request but Read and Take back."; "granted with a draft number (09, 14, 15)"
+-- a kind that compares no labels, and one that does; the rule is asked by Import alone
+abbrev pub unlabelled : Ruling → List ℕ → (House → List Line) → Kind
+unlabelled grant refusals lines = record { grant = grant; refusals = refusals; lines = λ rule h. lines h; compared = λ rule h. none }
+
+abbrev pub labelled : Ruling → List ℕ → (House → List Line) → (House → Parts) → Kind
+labelled grant refusals lines compared = record { grant = grant; refusals = refusals; lines = λ rule h. lines h; compared = λ rule h. compared h }
+
+abbrev pub kind : Request → Kind
+kind (Request.Enrol u new sort level c admin) = unlabelled Keep (3 ∷ 4 ∷ 5 ∷ 6 ∷ []) λ h. enrolLines h u new sort level c admin
+kind (Request.Establish u room) = unlabelled Keep (3 ∷ 4 ∷ 5 ∷ 6 ∷ []) λ h. establishLines h u room
+kind (Request.JoinStaff u w room) = unlabelled Keep (3 ∷ 4 ∷ 6 ∷ 7 ∷ 8 ∷ []) λ h. joinStaffLines h u w room
+kind (Request.LeaveStaff u w room) = unlabelled Keep (3 ∷ 4 ∷ 6 ∷ 7 ∷ 8 ∷ []) λ h. leaveStaffLines h u w room
+kind (Request.JoinOutsider u w room level c) = unlabelled Keep (3 ∷ 4 ∷ 6 ∷ 7 ∷ 8 ∷ []) λ h. joinOutsiderLines h u w room level
+kind (Request.LeaveOutsider u w room) = unlabelled Keep (3 ∷ 4 ∷ 6 ∷ 7 ∷ 8 ∷ []) λ h. leaveOutsiderLines h u w room
+kind (Request.Add u k v room) = unlabelled Keep (3 ∷ 4 ∷ 6 ∷ 8 ∷ []) λ h. addLines h u k v room
+kind (Request.Remove u k v room) = unlabelled Keep (3 ∷ 4 ∷ 6 ∷ 8 ∷ []) λ h. removeLines h u k v room
+kind (Request.Import u k₁ v k₂ room) = record {
+  grant = KeepNumbered;
+  refusals = 3 ∷ 4 ∷ 6 ∷ 8 ∷ 9 ∷ 16 ∷ 10 ∷ [];
+  lines = λ rule h. importLines rule h u k₁ v k₂ room;
+  compared = λ rule h. importing rule (script h k₂) (script h k₁);
+}
+kind (Request.Merge u k v room) = unlabelled Keep (3 ∷ 4 ∷ 6 ∷ 8 ∷ []) λ h. mergeLines h u k v room
+kind (Request.Disband u room) = unlabelled Keep (3 ∷ 4 ∷ 6 ∷ []) λ h. disbandLines h u room
+kind (Request.MakeLead u w room) = unlabelled Keep (3 ∷ 4 ∷ 6 ∷ 7 ∷ 8 ∷ []) λ h. makeLeadLines h u w room
+kind (Request.EndLead u w room) = unlabelled Keep (3 ∷ 4 ∷ 6 ∷ 7 ∷ 8 ∷ []) λ h. endLeadLines h u w room
+kind (Request.OpenInRoom u s room level c) =
+    labelled Keep (3 ∷ 4 ∷ 5 ∷ 8 ∷ 9 ∷ 16 ∷ []) (λ h. openInRoomLines h u s room level c) λ h. opening (user h u) level c
+kind (Request.OpenInHouse u s level c) = labelled Keep (3 ∷ 4 ∷ 5 ∷ 7 ∷ 9 ∷ 16 ∷ []) (λ h. openInHouseLines h u s level c) λ h. opening (user h u) level c
+kind (Request.OpenReadOnly u s level c) = labelled Keep (3 ∷ 4 ∷ 5 ∷ 9 ∷ 16 ∷ []) (λ h. openReadOnlyLines h u s level c) λ h. opening (user h u) level c
+kind (Request.Read s k v) = labelled Pass (3 ∷ 4 ∷ 8 ∷ 9 ∷ 16 ∷ []) (λ h. readLines h s k v) λ h. reading (session h s) (script h k)
+kind (Request.Update s k v) = labelled KeepNumbered (3 ∷ 4 ∷ 7 ∷ 8 ∷ 9 ∷ 16 ∷ 10 ∷ []) (λ h. updateLines h s k v) λ h. updating (session h s) (script h k)
+kind (Request.Create s k) = unlabelled KeepNumbered (3 ∷ 4 ∷ 5 ∷ 7 ∷ 10 ∷ []) λ h. createLines h s k
+kind (Request.Kill u s) = unlabelled Keep (3 ∷ 4 ∷ 6 ∷ []) λ h. killLines h u s
+kind (Request.TakeBack u) = unlabelled Ruling.TakeBack (3 ∷ 4 ∷ 6 ∷ []) λ h. takeBackLines h u
+
+abbrev pub linesOf : Rule → House → Request → List Line
+linesOf rule h q = kind q .lines rule h
+
 abbrev pub grantOf : Request → Ruling
-grantOf (Enrol u new sort level c admin) = Keep
-grantOf (Establish u room) = Keep
-grantOf (JoinStaff u w room) = Keep
-grantOf (LeaveStaff u w room) = Keep
-grantOf (JoinOutsider u w room level c) = Keep
-grantOf (LeaveOutsider u w room) = Keep
-grantOf (Add u k v room) = Keep
-grantOf (Remove u k v room) = Keep
-grantOf (Import u k₁ v k₂ room) = KeepNumbered
-grantOf (Merge u k v room) = Keep
-grantOf (Disband u room) = Keep
-grantOf (OpenInRoom u s room level c) = Keep
-grantOf (OpenInHouse u s level c) = Keep
-grantOf (OpenReadOnly u s level c) = Keep
-grantOf (Read s k v) = Pass
-grantOf (Update s k v) = KeepNumbered
-grantOf (Create s k) = KeepNumbered
-grantOf (Kill u s) = Keep
-grantOf (TakeBack u) = Ruling.TakeBack
+grantOf q = kind q .grant
+
+abbrev pub refusals : Request → List ℕ
+refusals q = kind q .refusals
+
+abbrev pub compared : Rule → House → Request → Parts
+compared rule h q = kind q .compared rule h
 
 -- the ruling: the grant where all holds, and else the refusal, with its reason
 abbrev pub grantIf : Ruling → Asked → Ruling

@@ -7,12 +7,14 @@ ghost use mathlib.Core.Path.{_≡_};
 ghost use Rattle.records.specs.House.{view};
 ghost use Rattle.judge.specs.Kinds.{grantIf, rulingOf};
 use people::disband;
+use people::end_lead;
 use people::enrol;
 use people::establish;
 use people::join_outsider;
 use people::join_staff;
 use people::leave_outsider;
 use people::leave_staff;
+use people::make_lead;
 use people::take_back;
 use reasons::Asked;
 use reasons::Reason;
@@ -119,6 +121,8 @@ pub fn judge(records: &Cells, rule: Rule, request: Request) -> Ruling
             room,
         } => grant_if(Ruling::Keep, merge(records, u, script, number, room)),
         Request::Disband { u, room } => grant_if(Ruling::Keep, disband(records, u, room)),
+        Request::MakeLead { u, w, room } => grant_if(Ruling::Keep, make_lead(records, u, w, room)),
+        Request::EndLead { u, w, room } => grant_if(Ruling::Keep, end_lead(records, u, w, room)),
         Request::OpenInRoom {
             u,
             session,

@@ -2,7 +2,7 @@
 ghost use mathlib.Core.Path.{_≡_};
 ghost use Rattle.records.specs.House.{view};
 ghost use Rattle.reasons.specs.Asking.{asked};
-ghost use Rattle.judge.specs.Kinds.{enrolLines, establishLines, joinStaffLines, leaveStaffLines, joinOutsiderLines, leaveOutsiderLines, disbandLines, takeBackLines};
+ghost use Rattle.judge.specs.Kinds.{enrolLines, establishLines, joinStaffLines, leaveStaffLines, joinOutsiderLines, leaveOutsiderLines, disbandLines, makeLeadLines, endLeadLines, takeBackLines};
 use reasons::Asked;
 use records::Cells;
 
@@ -105,6 +105,29 @@ pub(crate) fn disband(records: &Cells, u: u8, room: u8) -> Asked
         .user_exists(records, u)
         .room_exists(records, room)
         .leads(records, u, room)
+}
+
+// 0C: u makes w a lead.
+pub(crate) fn make_lead(records: &Cells, u: u8, w: u8, room: u8) -> Asked
+    ensures { λ r. ⌜ r ≡ asked (makeLeadLines (view (now (records .entry))) u w room) ⌝ }
+{
+    Asked::Holds
+        .pair_numbers(u, w, room)
+        .pair_led(records, u, w, room)
+        .staff(records, w)
+        .not_lead(records, w, room)
+}
+
+// 0D: u ends w's lead.
+pub(crate) fn end_lead(records: &Cells, u: u8, w: u8, room: u8) -> Asked
+    ensures { λ r. ⌜ r ≡ asked (endLeadLines (view (now (records .entry))) u w room) ⌝ }
+{
+    Asked::Holds
+        .pair_numbers(u, w, room)
+        .pair_led(records, u, w, room)
+        .staff(records, w)
+        .lead(records, w, room)
+        .another_lead(records, room)
 }
 
 // 20 Take back: whether a change is left is asked by whoever keeps them.

@@ -123,6 +123,13 @@ fn daily(end: u32) -> Cells {
     records
 }
 
+// The daily house, in which user 2 leads room 1 beside user 0.
+fn led() -> Cells {
+    let mut records = daily(12);
+    records::put_user(&mut records, 2, user(0, 2, 1, 0, 2, false));
+    records
+}
+
 // The last of each range: user, script and session 63, room 16, level 7, all categories. Room 1 is led by user 60.
 fn edge() -> Cells {
     let mut records = [0u32; 1858];
@@ -146,10 +153,13 @@ fn edge() -> Cells {
     records
 }
 
-// d the daily house, a and f with 255 and 256 live drafts, e the last of each range; any other letter no records.
+// d the daily house, l with a second lead, a and f with 255 and 256 live drafts, e the last of each range; any other letter no records.
 fn house(letter: u8) -> Cells {
     if letter == b'd' {
         return daily(12);
+    }
+    if letter == b'l' {
+        return led();
     }
     if letter == b'a' {
         return daily(256);

@@ -12,7 +12,8 @@ use Rattle.request.specs.Bytes.{_#_, quad}
 use Rattle.request.specs.Reading.{requestOf}
 use Rattle.request.specs.Writing.{framed}
 use Rattle.request.specs.declared.Request.{Request}
-use Rattle.request.proofs.RoundTrip.{framed-length, framed-makes, quad-forth}
+use Rattle.request.proofs.RoundTrip.{quad-forth}
+use Rattle.request.proofs.Framed.{framed-length, framed-makes}
 use Rattle.effects.specs.declared.Change.{Change}
 use Rattle.log.specs.Log.{changeTable, past, noChange}
 

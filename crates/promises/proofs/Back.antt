@@ -5,7 +5,6 @@ use mathlib.Core.Bool.{true}
 use mathlib.Core.List.{List, [], _∷_, foldl, foldl-append}
 use mathlib.Core.Logic.{_⊎_, inl, inr}
 use Rattle.request.specs.declared.Request.{Request}
-use Rattle.request.specs.declared.Request.the-variants.{Enrol, Establish, JoinStaff, LeaveStaff, JoinOutsider, LeaveOutsider, Add, Remove, Import, Merge, Disband, OpenInRoom, OpenInHouse, OpenReadOnly, Read, Update, Create, Kill, TakeBack}
 use Rattle.request.proofs.Absurd.{differ}
 use Rattle.records.specs.House.{House}
 use Rattle.records.specs.declared.Rule.{Rule}
@@ -33,25 +32,27 @@ Kept g = (g ≡ Keep) ⊎ (g ≡ KeepNumbered)
 
 -- the kinds whose grant is kept are those two out of all
 pub change-kept : (q : Request) → IsChange q → Kept (grantOf q)
-change-kept (Enrol u new sort level c admin) k = inl refl
-change-kept (Establish u room) k = inl refl
-change-kept (JoinStaff u w room) k = inl refl
-change-kept (LeaveStaff u w room) k = inl refl
-change-kept (JoinOutsider u w room level c) k = inl refl
-change-kept (LeaveOutsider u w room) k = inl refl
-change-kept (Add u s v room) k = inl refl
-change-kept (Remove u s v room) k = inl refl
-change-kept (Import u s₁ v s₂ room) k = inr refl
-change-kept (Merge u s v room) k = inl refl
-change-kept (Disband u room) k = inl refl
-change-kept (OpenInRoom u s room level c) k = inl refl
-change-kept (OpenInHouse u s level c) k = inl refl
-change-kept (OpenReadOnly u s level c) k = inl refl
-change-kept (Read s x v) k = absurd (k .no-read (is-read s x v))
-change-kept (Update s x v) k = inr refl
-change-kept (Create s x) k = inr refl
-change-kept (Kill u s) k = inl refl
-change-kept (TakeBack u) k = absurd (k .no-take-back (is-take-back u))
+change-kept (Request.Enrol u new sort level c admin) k = inl refl
+change-kept (Request.Establish u room) k = inl refl
+change-kept (Request.JoinStaff u w room) k = inl refl
+change-kept (Request.LeaveStaff u w room) k = inl refl
+change-kept (Request.JoinOutsider u w room level c) k = inl refl
+change-kept (Request.LeaveOutsider u w room) k = inl refl
+change-kept (Request.Add u s v room) k = inl refl
+change-kept (Request.Remove u s v room) k = inl refl
+change-kept (Request.Import u s₁ v s₂ room) k = inr refl
+change-kept (Request.Merge u s v room) k = inl refl
+change-kept (Request.Disband u room) k = inl refl
+change-kept (Request.MakeLead u w room) k = inl refl
+change-kept (Request.EndLead u w room) k = inl refl
+change-kept (Request.OpenInRoom u s room level c) k = inl refl
+change-kept (Request.OpenInHouse u s level c) k = inl refl
+change-kept (Request.OpenReadOnly u s level c) k = inl refl
+change-kept (Request.Read s x v) k = absurd (k .no-read (is-read s x v))
+change-kept (Request.Update s x v) k = inr refl
+change-kept (Request.Create s x) k = inr refl
+change-kept (Request.Kill u s) k = inl refl
+change-kept (Request.TakeBack u) k = absurd (k .no-take-back (is-take-back u))
 
 pub read-passes : {q : Request} → IsRead q → grantOf q ≡ Pass
 read-passes (is-read x s v) = refl
@@ -134,13 +135,13 @@ module _ (rule : Rule) (d : Desk House Change) (q : Request) where
       go p (back a k n t) = differ cc
 
 -- a granted Take back takes the newest kept change, and is not kept itself
-pub takes-newest : (rule : Rule) (d : Desk House Change) (u : ℕ) → grants (step (deskRules rule) d (TakeBack u) .answer) ≡ true → TakenBack (deskRules rule) d (step (deskRules rule) d (TakeBack u))
-takes-newest rule d u g = go (way rule d (TakeBack u))
+pub takes-newest : (rule : Rule) (d : Desk House Change) (u : ℕ) → grants (step (deskRules rule) d (Request.TakeBack u) .answer) ≡ true → TakenBack (deskRules rule) d (step (deskRules rule) d (Request.TakeBack u))
+takes-newest rule d u g = go (way rule d (Request.TakeBack u))
   where
-    go : Way rule d (TakeBack u) (step (deskRules rule) d (TakeBack u)) → TakenBack (deskRules rule) d (step (deskRules rule) d (TakeBack u))
-    go (by-rule r k s) = clash g (granted-told rule d (TakeBack u) s)
-    go (no-number a k l s) = clash g (granted-told rule d (TakeBack u) s)
-    go (no-change a k l s) = clash g (granted-told rule d (TakeBack u) s)
+    go : Way rule d (Request.TakeBack u) (step (deskRules rule) d (Request.TakeBack u)) → TakenBack (deskRules rule) d (step (deskRules rule) d (Request.TakeBack u))
+    go (by-rule r k s) = clash g (granted-told rule d (Request.TakeBack u) s)
+    go (no-number a k l s) = clash g (granted-told rule d (Request.TakeBack u) s)
+    go (no-change a k l s) = clash g (granted-told rule d (Request.TakeBack u) s)
     go (read a k s) = differ cc
     go (plain a k s) = differ cc
     go (with-number a k l s) = differ cc
@@ -151,11 +152,11 @@ idle-run rule d [] e = refl
 idle-run rule d (q ∷ rs) e = idle-run rule (step (deskRules rule) d q .desk) rs (e .1) ∙ idle-stays rule d q (e .0)
 
 -- ---- "A Take back can't itself be taken back": the next one takes the change before
-pub back-for-good : (rule : Rule) (d : Desk House Change) (u : ℕ) (rs : List Request) (w : ℕ) → ThenBack rule d (TakeBack u) rs w
-    → BothBack rule d (step (deskRules rule) (atLast rule d (TakeBack u) rs) (TakeBack w))
+pub back-for-good : (rule : Rule) (d : Desk House Change) (u : ℕ) (rs : List Request) (w : ℕ) → ThenBack rule d (Request.TakeBack u) rs w
+    → BothBack rule d (step (deskRules rule) (atLast rule d (Request.TakeBack u) rs) (Request.TakeBack w))
 back-for-good rule d u rs w b =
-    let once = nextDesk rule d (TakeBack u) in
-    let p = left-so (takes-newest rule (atLast rule d (TakeBack u) rs) w (b .back)) ∙ ap less (idle-run rule once rs (b .idle) ∙ left-so (takes-newest rule d u (b .granted))) in
+    let once = nextDesk rule d (Request.TakeBack u) in
+    let p = left-so (takes-newest rule (atLast rule d (Request.TakeBack u) rs) w (b .back)) ∙ ap less (idle-run rule once rs (b .idle) ∙ left-so (takes-newest rule d u (b .granted))) in
     record {
       log = ap (λ (e : Desk House Change). e .log) p;
       last = ap (λ (e : Desk House Change). e .last) p;
@@ -179,7 +180,7 @@ reached-sound R start last qs = record { made = made; each = λ k. tt }
 
 -- a granted change, then requests that are refused or only read, then a granted Take back: the records are those before the change; the number stays
 pub back-as-it-stood : (rule : Rule) (h : House) (last : ℕ) (before : List Request) (q : Request) (rs : List Request) (u : ℕ) → IsChange q → ThenBack rule (reachedDesk rule h last before) q rs u
-    → AsItStood rule (reachedDesk rule h last before) q (step (deskRules rule) (atLast rule (reachedDesk rule h last before) q rs) (TakeBack u))
+    → AsItStood rule (reachedDesk rule h last before) q (step (deskRules rule) (atLast rule (reachedDesk rule h last before) q rs) (Request.TakeBack u))
 back-as-it-stood rule h last before q rs u c b =
     let stood = reachedDesk rule h last before in
     let t = takes-newest rule (atLast rule stood q rs) u (b .back) in

@@ -32,6 +32,7 @@ use Rattle.promises.proofs.Reached.{reached}
 use Rattle.promises.proofs.Back.{back-as-it-stood}
 use Rattle.promises.proofs.Seen.{given-once, live-made}
 use Rattle.promises.proofs.Sight.{sessions-within, reads-within}
+use Rattle.promises.proofs.Leads.{always-led}
 use Rattle.promises.proofs.Demands.{by-the-book, by-the-answers, rising, no-change-left, newest-goes}
 
 -- ---- of any requests that fit their bytes
@@ -47,6 +48,7 @@ of-requests rule h last m qs fit = record {
   live-made = live-made rule h last m qs;
   sessions-within = sessions-within rule h last m qs fit;
   reads-within = reads-within rule h last m qs fit;
+  always-led = always-led rule h last m qs fit;
   meets = reached rule h last m qs fit;
 }
 

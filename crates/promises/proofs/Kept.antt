@@ -1,19 +1,21 @@
 -- Every granted change keeps the record rules. 01: "Every desk reached from an opening meets these record rules".
-use Prim.Native.Nat.{ℕ, _+_, _≤_, _<_}
+use Prim.Native.Nat.{ℕ, zero, suc, _+_, _≤_, _<_}
 use mathlib.Core.Path.{_≡_, refl, subst}
 use mathlib.Core.Bool.{Bool, true, false, not, _&&_, _||_}
-use mathlib.Core.List.{[], _∷_}
+use mathlib.Core.List.{List, [], _∷_}
 use mathlib.Core.Logic.{_⊎_, inl, inr}
 use native.Mathlib.Omega.{arith}
 use lib.Dec.{eqb, leb}
-use lib.ListN.{length}
+use lib.ListN.{length, getD}
+use Rattle.records.specs.Lists.{all}
 use borrow.Author.Tests.{eqb-true, eq-eqb, leb-true, ltb-true, not-true}
 use Rattle.records.specs.Places.{has}
 use Rattle.records.specs.House.{House, house, staff, outsider, user, script}
 use Rattle.records.specs.declared.User.{User}
 use Rattle.records.specs.declared.Rule.{Rule}
 use Rattle.request.specs.declared.Request.{Request}
-use Rattle.request.specs.declared.Request.the-variants.{Enrol, Establish, JoinStaff, LeaveStaff, JoinOutsider, LeaveOutsider, Add, Remove, Import, Merge, Disband, OpenInRoom, OpenInHouse, OpenReadOnly, Read, Update, Create, Kill, TakeBack}
+use Rattle.request.specs.Writing.{Field, one, two, spelling}
+use Rattle.leads.specs.Leads.{leadCount}
 use Rattle.effects.specs.Effects.{effect}
 use Rattle.judge.specs.declared.Ruling.{Ruling}
 use Rattle.judge.specs.declared.Ruling.the-variants.{Refused, Pass, Keep, KeepNumbered}
@@ -24,12 +26,12 @@ use Rattle.reasons.specs.Shared.{pairNumbers, pairLed, draftLed, opens, covers,
 use Rattle.judge.specs.Kinds.{enrolWhere, establishLines, importLines, disbandLines, createLines, killLines, linesOf, grantOf, rulingOf}
 use Rattle.rules.specs.Rules.{rules}
 use Rattle.rules.specs.Facts.{RoomNumber, LabelFits, Administered, Rules}
-use Rattle.promises.specs.Fits.{bytes, twoBytes, fits}
-use Rattle.rules.proofs.Bools.{clash, right, itself, equal, _and_, _then_}
+use Rattle.promises.specs.Fits.{fieldFits, fits}
+use Rattle.rules.proofs.Bools.{clash, left, right, itself, equal, _and_, _then_}
 use Rattle.rules.proofs.Meaning.{rules-are}
 use Rattle.promises.proofs.Granted.{Hold, conditions}
 use Rattle.promises.proofs.Drafts.{ascending-later}
-use Rattle.promises.proofs.Users.{enrol, establish, join-staff, join-outsider, leave}
+use Rattle.promises.proofs.Users.{enrol, establish, join-staff, join-outsider, leave, make-lead, end-lead}
 use Rattle.conditions.proofs.Labels.{covered}
 use Rattle.promises.proofs.Sessions.{open-in-room, open-in-house, open-read-only, kill}
 use Rattle.promises.proofs.Texts as texts
@@ -43,8 +45,17 @@ room-of room high low = record { low = leb-true 1 room low; high = leb-true room
 id-of : (n : ℕ) → isId n ≡ true → n < 64
 id-of n k = omega (arith, leb-true n 63 k)
 
-label-of : (level c : ℕ) (others : Bool) → leb level 7 ≡ true → (others && twoBytes c) ≡ true → LabelFits level c
-label-of level c others k f = record { level-fits = leb-true level 7 k; categories-fit = omega (arith, ltb-true c _ (right others (twoBytes c) f)) }
+label-of : (level c : ℕ) → leb level 7 ≡ true → fieldFits (two c) ≡ true → LabelFits level c
+label-of level c k f = record { level-fits = leb-true level 7 k; categories-fit = omega (arith, ltb-true c _ f) }
+
+-- field i fits its bytes
+field-fits : (fs : List Field) → all fieldFits fs ≡ true → (i : ℕ) → fieldFits (getD fs i (one 0)) ≡ true
+field-fits [] a i = refl
+field-fits (f ∷ fs) a zero = left (fieldFits f) (all fieldFits fs) a
+field-fits (f ∷ fs) a (suc i) = field-fits fs (right (fieldFits f) (all fieldFits fs) a) i
+
+field-of : (q : Request) → fits q ≡ true → (i : ℕ) → fieldFits (getD (spelling q .fields) i (one 0)) ≡ true
+field-of q = field-fits (spelling q .fields)
 
 staff-of : (u : User) → isStaff u ≡ true → u .sort ≡ staff
 staff-of u k = eqb-true (u .sort) staff (right (u .here) (eqb (u .sort) staff) k)
@@ -95,39 +106,41 @@ module _ (rule : Rule) (h : House) (last : ℕ) (R : Rules h last) where
   -- where f k says that condition k of the kind holds
   next : (n : ℕ) (q : Request) → fits q ≡ true → Hold (linesOf rule h q) → Next h last n q (grantOf q)
   unfolding enrolWhere establishLines pairNumbers pairLed draftLed importLines disbandLines opens covers asScript imports draftAsked createLines killLines
-  next n (Enrol u new sort level c admin) w f =
+  next n (Request.Enrol u new sort level c admin) w f =
       let s = sort-of sort (f 3) in
-      let l = label-of level c (bytes (u ∷ new ∷ sort ∷ level ∷ admin ∷ [])) (f 2) w in
+      let l = label-of level c (f 2) (field-of (Request.Enrol u new sort level c admin) w 4) in
       enrol h last R new sort level c admin (id-of new (f 1)) (not-true (user h new .here) (f 9)) (known-sort sort s) l
       (chief-of sort admin s (plain-of sort admin (f 7))) (λ o. (plain-of sort level (f 5) o, plain-of sort c (f 6) o)) (ruler-of h u admin (f 8) (f 12) (f 13))
-  next n (Establish u room) w f = establish h last R u room (room-of room (f 1) (f 2)) (f 3) (not-true (has (h .rooms) room) (f 4)) (f 5)
-  next n (JoinStaff u m room) w f = join-staff h last R m room (room-of room (f 2) (f 3)) (f 5) (f 6) (staff-of (user h m) (f 8))
-  next n (LeaveStaff u m room) w f = leave h last R m room (room-of room (f 2) (f 3)) (f 5)
-  next n (JoinOutsider u m room level c) w f =
-      let l = label-of level c (bytes (u ∷ m ∷ room ∷ level ∷ [])) (f 4) w in
+  next n (Request.Establish u room) w f = establish h last R u room (room-of room (f 1) (f 2)) (f 3) (not-true (has (h .rooms) room) (f 4)) (f 5)
+  next n (Request.JoinStaff u m room) w f = join-staff h last R m room (room-of room (f 2) (f 3)) (f 5) (f 6) (staff-of (user h m) (f 8))
+  next n (Request.LeaveStaff u m room) w f = leave h last R m room (room-of room (f 2) (f 3)) (f 5)
+  next n (Request.JoinOutsider u m room level c) w f =
+      let l = label-of level c (f 4) (field-of (Request.JoinOutsider u m room level c) w 4) in
       join-outsider h last R m room (room-of room (f 2) (f 3)) (f 6) level c (f 7) (other-of (user h m) (f 6) (f 9)) l
-  next n (LeaveOutsider u m room) w f = leave h last R m room (room-of room (f 2) (f 3)) (f 5)
-  next n (Add u s v room) w f = add h last R s v room (f 5) (f 9)
-  next n (Remove u s v room) w f = remove h last R s v room (room-of room (f 2) (f 3))
-  next n (Import u s₁ v s₂ room) w f = λ l. texts.imports h last R (ltb-true (length (h .drafts)) 256 (f 15)) l s₂ (f 8) (eqb-true (script h s₂ .origin) house (f 12))
-  next n (Merge u s v room) w f = merge h last R s v (eqb-true (script h s .origin) house (f 10))
-  next n (Disband u room) w f = disband room (room-of room (f 1) (f 2)) h last R
-  next n (OpenInRoom u x room level c) w f =
-      let l = label-of level c (bytes (u ∷ x ∷ room ∷ level ∷ [])) (f 4) w in
+  next n (Request.LeaveOutsider u m room) w f = leave h last R m room (room-of room (f 2) (f 3)) (f 5)
+  next n (Request.Add u s v room) w f = add h last R s v room (f 5) (f 9)
+  next n (Request.Remove u s v room) w f = remove h last R s v room (room-of room (f 2) (f 3))
+  next n (Request.Import u s₁ v s₂ room) w f = λ l. texts.imports h last R (ltb-true (length (h .drafts)) 256 (f 15)) l s₂ (f 8) (eqb-true (script h s₂ .origin) house (f 12))
+  next n (Request.Merge u s v room) w f = merge h last R s v (eqb-true (script h s .origin) house (f 10))
+  next n (Request.Disband u room) w f = disband room (room-of room (f 1) (f 2)) h last R
+  next n (Request.MakeLead u m room) w f = make-lead h last R m room (room-of room (f 2) (f 3)) (f 5) (f 6) (staff-of (user h m) (f 8))
+  next n (Request.EndLead u m room) w f = end-lead h last R m room (room-of room (f 2) (f 3)) (f 5) (leb-true 2 (leadCount h room) (f 10))
+  next n (Request.OpenInRoom u x room level c) w f =
+      let l = label-of level c (f 4) (field-of (Request.OpenInRoom u x room level c) w 4) in
       let o = opens-of (user h u) level c (f 9) (f 10) in
       open-in-room h last R x (id-of x (f 1)) u level c (f 5) l o room (room-of room (f 2) (f 3) .low) (f 6) (f 8)
-  next n (OpenInHouse u x level c) w f =
-      let l = label-of level c (bytes (u ∷ x ∷ level ∷ [])) (f 2) w in
+  next n (Request.OpenInHouse u x level c) w f =
+      let l = label-of level c (f 2) (field-of (Request.OpenInHouse u x level c) w 3) in
       let o = opens-of (user h u) level c (f 6) (f 7) in
       open-in-house h last R x (id-of x (f 1)) u level c (f 3) l o (staff-of (user h u) (f 5))
-  next n (OpenReadOnly u x level c) w f =
-      let l = label-of level c (bytes (u ∷ x ∷ level ∷ [])) (f 2) w in
+  next n (Request.OpenReadOnly u x level c) w f =
+      let l = label-of level c (f 2) (field-of (Request.OpenReadOnly u x level c) w 3) in
       open-read-only h last R x (id-of x (f 1)) u level c (f 3) l (opens-of (user h u) level c (f 5) (f 6))
-  next n (Read x s v) w f = tt
-  next n (Update x s v) w f = λ l. update h last R (ltb-true (length (h .drafts)) 256 (f 9)) l x s v (f 4) (f 6)
-  next n (Create x s) w f = λ l. create h last R (ltb-true (length (h .drafts)) 256 (f 5)) l x s (id-of s (f 0)) (not-true (script h s .here) (f 3)) (f 4)
-  next n (Kill u x) w f = kill h last R x (id-of x (f 1))
-  next n (TakeBack u) w f = tt
+  next n (Request.Read x s v) w f = tt
+  next n (Request.Update x s v) w f = λ l. update h last R (ltb-true (length (h .drafts)) 256 (f 9)) l x s v (f 4) (f 6)
+  next n (Request.Create x s) w f = λ l. create h last R (ltb-true (length (h .drafts)) 256 (f 5)) l x s (id-of s (f 0)) (not-true (script h s .here) (f 3)) (f 4)
+  next n (Request.Kill u x) w f = kill h last R x (id-of x (f 1))
+  next n (Request.TakeBack u) w f = tt
 
 -- ---- the theorems, on the test of the record rules
 module _ (rule : Rule) (h : House) (last : ℕ) (meets : rules h last ≡ true) where

@@ -1,5 +1,5 @@
 -- The promises: Demands (2 and 3), Exactly and Listed (grants and refusals), Back and Seen (take-backs, numbers), Reached (the record rules), Sight (what
--- is read), Determined (contracts), and the laws that they take.
+-- is read), Leads (who leads), Determined (contracts), and the laws that they take.
 pub mod Granted
 pub mod Parts
 pub mod Drafts
@@ -21,6 +21,7 @@ pub mod Ways
 pub mod Exactly
 pub mod Reached
 pub mod Sight
+pub mod Leads
 pub mod Listed
 pub mod Back
 pub mod Seen

@@ -12,7 +12,7 @@ use Rattle.records.specs.Lists.{any, all}
 use Rattle.records.specs.House.{House}
 use Rattle.records.specs.declared.Rule.{Rule}
 use Rattle.effects.specs.declared.Change.{Change}
-use Rattle.judge.specs.Table.{refusals}
+use Rattle.judge.specs.Kinds.{refusals}
 use Rattle.reasons.specs.Order.{order, isRefusal}
 use Rattle.reasons.proofs.Order.{all-refusals}
 use Rattle.judge.proofs.Order.{refused-by-table, row-ascends}

@@ -48,8 +48,8 @@ place-small rooms p f k = go (place-cases rooms p k)
 
 -- ---- people
 module _ (us us′ : List User) where
-  pub led-move : (r : ℕ) → ((i : ℕ) → has (getD us′ i noUser .leads) r ≡ has (getD us i noUser .leads) r) → Led us r → Led us′ r
-  led-move r e l = record { at-place = l .at-place; holds = e (l .at-place) ∙ l .holds; only = λ j k. l .only j (sym (e j) ∙ k) }
+  pub led-move : (r : ℕ) → ((i : ℕ) → has (getD us i noUser .leads) r ≡ true → has (getD us′ i noUser .leads) r ≡ true) → Led us r → Led us′ r
+  led-move r f l = record { where-it-is = l .where-it-is; holds = f (l .where-it-is) (l .holds) }
 
   pub admin-move : ((i : ℕ) → getD us i noUser .here ≡ true → getD us′ i noUser .here ≡ true)
       → ((i : ℕ) → getD us i noUser .admin ≡ true → getD us′ i noUser .admin ≡ true) → Administered us → Administered us′

@@ -1,9 +1,10 @@
 -- 01: "Every desk reached from an opening meets these record rules".
-use Prim.Native.Nat.{ℕ, _+_, _≤_, _<_}
+use Prim.Native.Nat.{ℕ, zero, suc, _+_, _≤_, _<_}
 use mathlib.Core.Path.{_≡_, sym, _∙_, subst}
 use mathlib.Core.Bool.{true}
 use mathlib.Core.List.{List, [], _∷_}
 use native.Mathlib.Omega.{arith}
+use lib.ListN.{take}
 use Rattle.request.specs.declared.Request.{Request}
 use Rattle.records.specs.Lists.{all}
 use Rattle.records.specs.House.{House}
@@ -20,6 +21,7 @@ use Rattle.history.specs.Machine.{Desk, Outcome, opened, keepChange, step, run}
 use Rattle.history.specs.Desk.{changeOf, deskRules}
 use Rattle.rules.specs.Rules.{rules}
 use Rattle.promises.specs.Events.{reachedDesk}
+use Rattle.promises.specs.Seen.{moment}
 use Rattle.promises.specs.Fits.{fits}
 use Rattle.rules.proofs.Bools.{left, right}
 use Rattle.rules.proofs.Meaning.{rules-are}
@@ -75,3 +77,14 @@ runs rule d S (q ∷ qs) w = runs rule (step (deskRules rule) d q .desk) (steps 
 pub reached : (rule : Rule) (h : House) (last : ℕ) → rules h last ≡ true → (qs : List Request) → all fits qs ≡ true
     → rules (reachedDesk rule h last qs .current) (reachedDesk rule h last qs .last) ≡ true
 reached rule h last m qs w = meets rule (reachedDesk rule h last qs) (runs rule (opened h last) (sound-opened (deskRules rule) (Meets last) h last m) qs w)
+
+-- so what the rules say of records holds at every moment of a run
+module _ (rule : Rule) (P : House → Type 0) (told : (h : House) (last : ℕ) → rules h last ≡ true → P h) where
+  from-desk : (d : Desk House Change) → Fine rule d → (qs : List Request) → all fits qs ≡ true → (k : ℕ) → P (run (deskRules rule) d (take k qs) .current)
+  from-desk d S qs w zero = told (d .current) (d .last) (meets rule d S)
+  from-desk d S [] w (suc k) = told (d .current) (d .last) (meets rule d S)
+  from-desk d S (q ∷ qs) w (suc k) =
+      from-desk (step (deskRules rule) d q .desk) (steps rule d S q (left (fits q) (all fits qs) w)) qs (right (fits q) (all fits qs) w) k
+
+  pub at-moments : (h : House) (last : ℕ) → rules h last ≡ true → (qs : List Request) → all fits qs ≡ true → (k : ℕ) → P (moment rule h last qs k)
+  at-moments h last m = from-desk (opened h last) (sound-opened (deskRules rule) (Meets last) h last m)

@@ -7,7 +7,6 @@ use mathlib.Core.Logic.{_⊎_, inl, inr}
 use native.Mathlib.Omega.{arith}
 use lib.ListN.{length, getD, take}
 use Rattle.request.specs.declared.Request.{Request}
-use Rattle.request.specs.declared.Request.the-variants.{Enrol, Establish, JoinStaff, LeaveStaff, JoinOutsider, LeaveOutsider, Add, Remove, Import, Merge, Disband, OpenInRoom, OpenInHouse, OpenReadOnly, Read, Update, Create, Kill, TakeBack}
 use Rattle.request.proofs.Absurd.{differ}
 use Rattle.records.specs.House.{House, house, noDraft, session, draftAt, putDraft, addDraft}
 use Rattle.records.specs.Lookups.{findDraft, atFound, placed}
@@ -91,26 +90,28 @@ module _ (P : ℕ → ℕ → Type 0) where
       go false d = each-keep Of Of placed (new .drafts) (λ _ _ p. p) d
 
   drafts-after : (h : House) (n : ℕ) (q : Request) → Drafts h → ((s : ℕ) → Makes q s → P n s) → Drafts (effect h n q)
-  drafts-after h n (Enrol u new sort level c admin) e m = e
-  drafts-after h n (Establish u room) e m = e
-  drafts-after h n (JoinStaff u w room) e m = e
-  drafts-after h n (LeaveStaff u w room) e m = e
-  drafts-after h n (JoinOutsider u w room level c) e m = e
-  drafts-after h n (LeaveOutsider u w room) e m = e
-  drafts-after h n (Add u s v room) e m = anew h (placedAt room) (λ d p. p) (findDraft h s v) e
-  drafts-after h n (Remove u s v room) e m = less h room (findDraft h s v) e
-  drafts-after h n (Import u s₁ v s₂ room) e m = one-more h n s₂ (only house) e (m s₂ (by-import u s₁ v room refl))
-  drafts-after h n (Merge u s v room) e m = anew h (placedAt house) (λ d p. p) (findDraft h s v) e
-  drafts-after h n (Disband u room) e m =
+  drafts-after h n (Request.Enrol u new sort level c admin) e m = e
+  drafts-after h n (Request.Establish u room) e m = e
+  drafts-after h n (Request.JoinStaff u w room) e m = e
+  drafts-after h n (Request.LeaveStaff u w room) e m = e
+  drafts-after h n (Request.JoinOutsider u w room level c) e m = e
+  drafts-after h n (Request.LeaveOutsider u w room) e m = e
+  drafts-after h n (Request.Add u s v room) e m = anew h (placedAt room) (λ d p. p) (findDraft h s v) e
+  drafts-after h n (Request.Remove u s v room) e m = less h room (findDraft h s v) e
+  drafts-after h n (Request.Import u s₁ v s₂ room) e m = one-more h n s₂ (only house) e (m s₂ (by-import u s₁ v room refl))
+  drafts-after h n (Request.Merge u s v room) e m = anew h (placedAt house) (λ d p. p) (findDraft h s v) e
+  drafts-after h n (Request.Disband u room) e m =
       each-keep Of Of placed (map (unplaced room) (h .drafts)) (λ _ _ p. p) (each-map Of Of (unplaced room) (h .drafts) (λ _ p. p) e)
-  drafts-after h n (OpenInRoom u x room level c) e m = e
-  drafts-after h n (OpenInHouse u x level c) e m = e
-  drafts-after h n (OpenReadOnly u x level c) e m = e
-  drafts-after h n (Read x s v) e m = e
-  drafts-after h n (Update x s v) e m = one-more h n s (only (session h x .place)) e (m s (by-update x v refl))
-  drafts-after h n (Create x s) e m = one-more h n s (only (session h x .place)) e (m s (by-create x refl))
-  drafts-after h n (Kill u x) e m = e
-  drafts-after h n (TakeBack u) e m = e
+  drafts-after h n (Request.MakeLead u w room) e m = e
+  drafts-after h n (Request.EndLead u w room) e m = e
+  drafts-after h n (Request.OpenInRoom u x room level c) e m = e
+  drafts-after h n (Request.OpenInHouse u x level c) e m = e
+  drafts-after h n (Request.OpenReadOnly u x level c) e m = e
+  drafts-after h n (Request.Read x s v) e m = e
+  drafts-after h n (Request.Update x s v) e m = one-more h n s (only (session h x .place)) e (m s (by-update x v refl))
+  drafts-after h n (Request.Create x s) e m = one-more h n s (only (session h x .place)) e (m s (by-create x refl))
+  drafts-after h n (Request.Kill u x) e m = e
+  drafts-after h n (Request.TakeBack u) e m = e
 
 -- a request that makes a draft gets a number
 makes-numbered : (q : Request) (s : ℕ) → Makes q s → grantOf q ≡ KeepNumbered
@@ -193,7 +194,7 @@ answered-before rule d (suc k) (q ∷ qs) (suc i) v e =
     let m = answered-before rule (step (deskRules rule) d q .desk) k qs i v e in
     (omega (arith, m .0), m .1)
 
-none-made : {A : Type 0} (u s : ℕ) → Makes (TakeBack u) s → A
+none-made : {A : Type 0} (u s : ℕ) → Makes (Request.TakeBack u) s → A
 none-made u s (by-import v s₁ w room e) = differ cc
 none-made u s (by-update x v e) = differ cc
 none-made u s (by-create x e) = differ cc

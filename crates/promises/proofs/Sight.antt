@@ -32,7 +32,7 @@ use Rattle.promises.specs.Sight.{ownerOf, SessionWithin, ReadWithin}
 use Rattle.promises.proofs.Granted.{Hold, each-holds}
 use Rattle.promises.proofs.Exactly.{exactly}
 use Rattle.promises.proofs.Past.{sound-opened}
-use Rattle.promises.proofs.Reached.{Meets, Fine, meets, steps}
+use Rattle.promises.proofs.Reached.{Meets, Fine, meets, steps, at-moments}
 
 -- ---- of records that meet the rules
 within : (h : House) (last : ℕ) → rules h last ≡ true → (x : ℕ) → SessionWithin h x
@@ -75,16 +75,10 @@ module _ (rule : Rule) where
   reads d S (q ∷ qs) w (suc k) x s v e g =
       reads (step (deskRules rule) d q .desk) (steps rule d S q (left (fits q) (all fits qs) w)) qs (right (fits q) (all fits qs) w) k x s v e g
 
-  sessions : (d : Desk House Change) → Fine rule d → (qs : List Request) → all fits qs ≡ true → (k x : ℕ) → SessionWithin (run (deskRules rule) d (take k qs) .current) x
-  sessions d S qs w zero x = within (d .current) (d .last) (meets rule d S) x
-  sessions d S [] w (suc k) x = within (d .current) (d .last) (meets rule d S) x
-  sessions d S (q ∷ qs) w (suc k) x =
-      sessions (step (deskRules rule) d q .desk) (steps rule d S q (left (fits q) (all fits qs) w)) qs (right (fits q) (all fits qs) w) k x
-
   module _ (h : House) (last : ℕ) (m : rules h last ≡ true) (qs : List Request) (w : all fits qs ≡ true) where
     -- "from then on every session is within its owner's label at all times"
     pub sessions-within : (k x : ℕ) → SessionWithin (moment rule h last qs k) x
-    sessions-within = sessions (opened h last) (sound-opened (deskRules rule) (Meets last) h last m) qs w
+    sessions-within = at-moments rule (λ g. (x : ℕ) → SessionWithin g x) within h last m qs w
 
     -- a granted Read reads a script within the label that the session's owner has at that moment
     pub reads-within : (k x s v : ℕ) → requestNo qs k ≡ Read x s v → grants (answerAt (answersFrom rule h last qs) k) ≡ true → ReadWithin (moment rule h last qs k) x s

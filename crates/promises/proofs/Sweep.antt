@@ -189,7 +189,7 @@ module _ (room : ℕ) (number : RoomNumber room) where
       administered = λ i k. admin-move (h .users) (map (parted room) (h .users)) (λ j q. rw (user-at j) q) (λ j q. rw (user-at j) q)
           (R .people .administered i (rw (user-at i) at k));
       led = λ r k. led-move (h .users) (map (parted room) (h .users)) r
-          (λ i. rw (user-at i) (without-other (user h i .leads) room low r (without-old (h .rooms) room low r k)))
+          (λ i q. rw (user-at i) (without-other (user h i .leads) room low r (without-old (h .rooms) room low r k) ∙ q))
           (R .people .led r (without-among (h .rooms) room low r k));
     }
 

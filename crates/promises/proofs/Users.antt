@@ -1,4 +1,4 @@
--- One user anew: Enrol, Establish, Join and Leave keep the record rules.
+-- One user anew: Enrol, Establish, Join, Leave, and leads made and ended keep the record rules.
 use Prim.Native.Nat.{ℕ, _≤_, _<_}
 use mathlib.Core.Path.{_≡_, refl, sym, ap, _∙_, subst}
 use mathlib.Core.Bool.{Bool, true, false, cond, not}
@@ -15,13 +15,14 @@ use Rattle.records.specs.declared.User.{User}
 use Rattle.records.specs.declared.Session.{Session}
 use Rattle.records.proofs.Places.{has-none, without-zero}
 use Rattle.label.specs.Labels.{covers}
+use Rattle.leads.specs.Leads.{withLeads, leading, leadEnded, leadCount}
 use Rattle.sessions.specs.Sessions.{ends, ended}
 use Rattle.sessions.specs.declared.Ending.the-variants.{OfMember, Uncovered}
-use Rattle.effects.specs.Elements.{enrolled, leading, joined, left, inNoRoom, hired}
+use Rattle.effects.specs.Elements.{enrolled, joined, left, inNoRoom, hired}
 use Rattle.effects.specs.Effects.{departed, arrived}
 use Rattle.rules.specs.Facts.{Among, RoomNumber, LabelFits, UserFine, Administered, Led, People, Writing, Within, SessionFine, Seated, Seats, Rules}
 use Rattle.rules.proofs.Bools.{clash}
-use Rattle.rules.proofs.Lists.{at-set}
+use Rattle.rules.proofs.Lists.{at-set, elsewhere}
 use Rattle.rules.proofs.Meaning.{within-is, none-within}
 use Rattle.rules.proofs.Sets.{some, with-new, with-old, with-other, with-among, without-other, without-among, number-room}
 use Rattle.promises.proofs.Parts.{led-move, admin-move, user-more, Stays, stays, session-stays, seats-more, seated-put, seats-put, seats-end}
@@ -35,23 +36,25 @@ here-fits us w h = go (decLe (length us) w)
     go (yes k) = clash h (ap (λ (x : User). x .here) (List·getD-eq-default us noUser k))
     go (no n) = omega arith
 
--- ---- a user anew who leads what the one before led
+-- ---- a user anew
 module _ (us : List User) (w : ℕ) (v : User) (fits : w < length us) where
-  put-leads : v .leads ≡ getD us w noUser .leads → (i : ℕ) → getD (set us w v) i noUser .leads ≡ getD us i noUser .leads
-  put-leads e i = at-set noUser (λ x. x .leads ≡ getD us i noUser .leads) us w v i fits (λ q. rw q e) (λ _. refl)
+  -- a room stays led where the new user leads it if the one before did
+  put-led : (r : ℕ) → (has (getD us w noUser .leads) r ≡ true → has (v .leads) r ≡ true) → Led us r → Led (set us w v) r
+  put-led r f = led-move us (set us w v) r
+      (λ i k. at-set noUser (λ x. has (x .leads) r ≡ true) us w v i fits (λ q. f (rw q at k)) (λ _. k))
 
   put-admin : v .here ≡ true → (getD us w noUser .admin ≡ true → v .admin ≡ true) → Administered us → Administered (set us w v)
   put-admin k f = admin-move us (set us w v)
       (λ i h. at-set noUser (λ x. x .here ≡ true) us w v i fits (λ _. k) (λ _. h))
       (λ i h. at-set noUser (λ x. x .admin ≡ true) us w v i fits (λ q. f (rw q at h)) (λ _. h))
 
-  put-people : (rooms : ℕ) → UserFine rooms v → v .leads ≡ getD us w noUser .leads → Administered (set us w v) → People rooms us → People rooms (set us w v)
-  put-people rooms f e a P = record {
+  put-people : (rooms : ℕ) → UserFine rooms v → ((r : ℕ) → has rooms r ≡ true → Led (set us w v) r) → Administered (set us w v) → People rooms us → People rooms (set us w v)
+  put-people rooms f l a P = record {
     size = length-set us w v ∙ P .size;
     numbers = P .numbers;
     each = λ i. at-set noUser (UserFine rooms) us w v i fits (λ _. f) (λ _. P .each i);
     administered = λ i k. a;
-    led = λ r k. led-move us (set us w v) r (λ i. ap (λ (s : ℕ). has s r) (put-leads e i)) (P .led r k);
+    led = l;
   }
 
 module _ (h : House) (last : ℕ) (R : Rules h last) where
@@ -59,7 +62,7 @@ module _ (h : House) (last : ℕ) (R : Rules h last) where
   pub enrol : (new sort level c admin : ℕ) → new < 64 → user h new .here ≡ false → sort ≤ 2 → LabelFits level c → (eqb admin 1 ≡ true → sort ≡ staff)
       → (sort ≡ outsider → (level ≡ 0) × (c ≡ 0)) → (eqb admin 1 ≡ true) ⊎ Administered (h .users) → Rules (putUser h new (enrolled sort level c admin)) last
   enrol new sort level c admin small free known label chief bare by = record {
-    people = put-people (h .users) new v fits (h .rooms) fine (rw absent) (ruled by) (R .people);
+    people = put-people (h .users) new v fits (h .rooms) fine led (ruled by) (R .people);
     seats = seats-put (h .rooms) (h .users) new v fits (h .sessions) (λ x e f. nobody x f (x .here) refl) (R .seats);
     texts = R .texts;
     counter = R .counter;
@@ -73,6 +76,9 @@ module _ (h : House) (last : ℕ) (R : Rules h last) where
 
       absent : user h new ≡ noUser
       absent = R .people .each new .absent free
+
+      led : (r : ℕ) → has (h .rooms) r ≡ true → Led (set (h .users) new v) r
+      led r k = put-led (h .users) new v fits r (λ q. clash (rw absent at q) (has-none r)) (R .people .led r k)
 
       fine : UserFine (h .rooms) v
       fine = record {
@@ -106,8 +112,13 @@ module _ (h : House) (last : ℕ) (R : Rules h last) where
     fits : w < length (h .users)
     fits = here-fits (h .users) w hw
 
-    anew : UserFine (h .rooms) v → v .leads ≡ user h w .leads → (user h w .admin ≡ true → v .admin ≡ true) → People (h .rooms) (set (h .users) w v)
+    anew : UserFine (h .rooms) v → ((r : ℕ) → has (h .rooms) r ≡ true → Led (set (h .users) w v) r) → (user h w .admin ≡ true → v .admin ≡ true)
+        → People (h .rooms) (set (h .users) w v)
     anew f l a = put-people (h .users) w v fits (h .rooms) f l (put-admin (h .users) w v fits hv a (R .people .administered w hw)) (R .people)
+
+    -- who leads what he led, and maybe more
+    leads-on : Among (user h w .leads) (v .leads) → (r : ℕ) → has (h .rooms) r ≡ true → Led (set (h .users) w v) r
+    leads-on f r k = put-led (h .users) w v fits r (f r) (R .people .led r k)
 
     -- whose sessions stay
     keeps : ((x : Session) → Within (user h w .level) (user h w .categories) x → Within (v .level) (v .categories) x)
@@ -131,7 +142,7 @@ module _ (h : House) (last : ℕ) (R : Rules h last) where
     -- ---- 03 Join staff
     pub join-staff : has (h .rooms) room ≡ true → user h w .sort ≡ staff → Rules (putUser h w (joined room (user h w))) last
     join-staff there is-staff = record {
-      people = anew w (joined room (user h w)) hw hw fine refl (λ k. k);
+      people = anew w (joined room (user h w)) hw hw fine (leads-on w (joined room (user h w)) hw hw (λ _ k. k)) (λ k. k);
       seats = keeps w (joined room (user h w)) hw hw (λ _ k. k) remains;
       texts = R .texts;
       counter = R .counter;
@@ -157,7 +168,7 @@ module _ (h : House) (last : ℕ) (R : Rules h last) where
     -- ---- 05 Join outsider
     pub join-outsider : (level c : ℕ) → has (h .rooms) room ≡ true → (user h w .sort ≡ staff → ⊥) → LabelFits level c → Rules (arrived h w room level c) last
     join-outsider level c there other label = record {
-      people = anew w v hw hw fine refl (λ k. k);
+      people = anew w v hw hw fine (leads-on w v hw hw (λ _ k. k)) (λ k. k);
       seats = seats (inNoRoom (user h w)) refl;
       texts = R .texts;
       counter = R .counter;
@@ -201,7 +212,7 @@ module _ (h : House) (last : ℕ) (R : Rules h last) where
     -- ---- 04, 06 Leave
     pub leave : Rules (departed h w room) last
     leave = record {
-      people = anew w v hw hw fine refl (λ k. k);
+      people = anew w v hw hw fine (leads-on w v hw hw (λ _ k. k)) (λ k. k);
       seats = ending w v hw hw (ends (OfMember w room)) (λ _ _ _ i. i) remains;
       texts = R .texts;
       counter = R .counter;
@@ -234,6 +245,58 @@ module _ (h : House) (last : ℕ) (R : Rules h last) where
             let u = user h w in
             stays (h .rooms) (h .rooms) u (without (u .rooms) room) (u .leads) (x .place) (λ q. q)
             (λ q. without-other (u .rooms) room small (x .place) (elsewhere x t e k) ∙ q)
+
+    -- ---- a lead made or ended: the rooms joined stay, and the sessions with them
+    module _ (leads : ℕ) (led-there : Among leads (h .rooms)) (is-staff : (user h w .sort ≡ staff → ⊥) → leads ≡ 0) where
+      lead-fine : UserFine (h .rooms) (withLeads leads (user h w))
+      lead-fine = let f = R .people .each w in record {
+        absent = λ k. clash hw k;
+        sort-known = f .sort-known;
+        label = f .label;
+        joined-there = f .joined-there;
+        led-there = led-there;
+        admin-staff = f .admin-staff;
+        lead-staff = is-staff;
+        outsider-bare = f .outsider-bare;
+      }
+
+      lead-anew : ((r : ℕ) → has (h .rooms) r ≡ true → Led (set (h .users) w (withLeads leads (user h w))) r) → Rules (putUser h w (withLeads leads (user h w))) last
+      lead-anew led = record {
+        people = anew w (withLeads leads (user h w)) hw hw lead-fine led (λ k. k);
+        seats = keeps w (withLeads leads (user h w)) hw hw (λ _ k. k) (λ x. let u = user h w in stays (h .rooms) (h .rooms) u (u .rooms) leads (x .place) (λ k. k) (λ k. k));
+        texts = R .texts;
+        counter = R .counter;
+      }
+
+    -- ---- 0C: staff may lead
+    pub make-lead : has (h .rooms) room ≡ true → user h w .sort ≡ staff → Rules (putUser h w (leading room (user h w))) last
+    make-lead there is-staff =
+        lead-anew (with (user h w .leads) room) (with-among (user h w .leads) room small (h .rooms) there (R .people .each w .led-there)) (λ n. absurd (n is-staff))
+        (leads-on w (leading room (user h w)) hw hw (with-old (user h w .leads) room small))
+
+    -- ---- 0D: where two lead the room, one is left
+    pub end-lead : 2 ≤ leadCount h room → Rules (putUser h w (leadEnded room (user h w))) last
+    end-lead two =
+        lead-anew (without (user h w .leads) room) (λ p k. f .led-there p (without-among (user h w .leads) room small p k)) (λ n. rw (f .lead-staff n) (without-zero room))
+        (λ r k. led r k (ℕ-discrete r room))
+      where
+        f : UserFine (h .rooms) (user h w)
+        f = R .people .each w
+
+        v : User
+        v = leadEnded room (user h w)
+
+        fits : w < length (h .users)
+        fits = here-fits (h .users) w hw
+
+        led : (r : ℕ) → has (h .rooms) r ≡ true → Dec (r ≡ room) → Led (set (h .users) w v) r
+        led r k (no n) = put-led (h .users) w v fits r (λ q. without-other (user h w .leads) room small r n ∙ q) (R .people .led r k)
+        led r k (yes e) =
+            let o = elsewhere noUser (λ u. has (u .leads) room) (has-none room) (h .users) w two in
+            subst (λ (x : ℕ). Led (set (h .users) w v) x) (sym e) (record {
+              where-it-is = o .place;
+              holds = at-set noUser (λ x. has (x .leads) room ≡ true) (h .users) w v (o .place) fits (λ q. absurd (o .other q)) (λ _. o .holds);
+            })
 
   -- ---- 02 Establish
   pub establish : (u room : ℕ) → RoomNumber room → user h u .here ≡ true → has (h .rooms) room ≡ false → user h u .admin ≡ true
@@ -284,13 +347,8 @@ module _ (h : House) (last : ℕ) (R : Rules h last) where
 
       led : (r : ℕ) → has rooms′ r ≡ true → Dec (r ≡ room) → Led (set (h .users) u v) r
       led r k (no n) =
-          led-move (h .users) (set (h .users) u v) r
-          (λ i. at-set noUser (λ x. has (x .leads) r ≡ has (user h i .leads) r) (h .users) u v i fits′
-          (λ e. rw e (with-other (user h u .leads) room small′ r n)) (λ _. refl))
-          (R .people .led r (sym (with-other (h .rooms) room small′ r n) ∙ k))
+          put-led (h .users) u v fits′ r (with-old (user h u .leads) room small′ r) (R .people .led r (sym (with-other (h .rooms) room small′ r n) ∙ k))
       led r k (yes e) = subst (λ (x : ℕ). Led (set (h .users) u v) x) (sym e) (record {
-        at-place = u;
+        where-it-is = u;
         holds = at-set noUser (λ x. has (x .leads) room ≡ true) (h .users) u v u fits′ (λ _. with-new (user h u .leads) room small′) (λ n. absurd (n refl));
-        only = λ j. at-set noUser (λ x. has (x .leads) room ≡ true → j ≡ u) (h .users) u v j fits′
-            (λ q _. q) (λ _ q. clash (R .people .each j .led-there room q) free);
       })

@@ -11,6 +11,7 @@ use Rattle.request.specs.declared.Request.the-variants.{Read, TakeBack}
 use Rattle.records.specs.House.{House}
 use Rattle.records.specs.declared.Rule.{Rule}
 use Rattle.effects.specs.Effects.{applied}
+use Rattle.conditions.specs.Conditions.{isRoom}
 use Rattle.reasons.specs.Asking.{AllHold}
 use Rattle.judge.specs.Kinds.{linesOf}
 use Rattle.history.specs.Machine.{outcome, step, run}
@@ -24,6 +25,7 @@ use Rattle.promises.specs.Events.{eventOf, answersFrom, keptNow}
 use Rattle.promises.specs.Back.{IsChange, TakenBack, ThenBack, AsItStood, atLast}
 use Rattle.promises.specs.Seen.{requestNo, answerAt, moment, MadeBefore}
 use Rattle.promises.specs.Sight.{SessionWithin, ReadWithin}
+use Rattle.promises.specs.Leads.{StaffLead}
 use Rattle.promises.specs.Grants.{grants}
 use Rattle.rules.specs.Rules.{rules}
 
@@ -71,5 +73,7 @@ pub record Promised (rule : Rule) (h : House) (last : ℕ) (qs : List Request) (
   -- 02, L4: "every session is within its owner's label at all times", and a granted Read reads a script within the label that the session's owner has then
   pub sessions-within : (k x : ℕ) → SessionWithin (moment rule h last qs k) x
   pub reads-within : (k x s v : ℕ) → requestNo qs k ≡ Read x s v → grants (answerAt (answersFrom rule h last qs) k) ≡ true → ReadWithin (moment rule h last qs k) x s
+  -- 02, L6: "Every room has at least one staff lead at all times"
+  pub always-led : (k room : ℕ) → isRoom (moment rule h last qs k) room ≡ true → StaffLead (moment rule h last qs k) room
   -- "Every desk reached from an opening meets these record rules"
   pub meets : rules (d .current) (d .last) ≡ true

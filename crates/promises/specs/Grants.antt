@@ -13,8 +13,7 @@ use Rattle.records.specs.declared.Rule.{Rule}
 use Rattle.effects.specs.declared.Change.{Change}
 use Rattle.reasons.specs.Asking.{AllHold}
 use Rattle.reasons.specs.Order.{isRefusal}
-use Rattle.judge.specs.Kinds.{linesOf, grantOf}
-use Rattle.judge.specs.Table.{refusals}
+use Rattle.judge.specs.Kinds.{linesOf, grantOf, refusals}
 use Rattle.judge.specs.declared.Ruling.{Ruling}
 use Rattle.judge.specs.declared.Ruling.the-variants.{Pass, Keep, KeepNumbered, TakeBack}
 use Rattle.counter.specs.Numbers.{top}

@@ -6,6 +6,7 @@ pub mod Grants
 pub mod Back
 pub mod Seen
 pub mod Sight
+pub mod Leads
 pub mod Calls
 pub mod Restart
 pub mod Amended

@@ -2,7 +2,7 @@
 use Prim.Native.Nat.{ℕ, suc, _≤_}
 use mathlib.Core.Path.{_≡_, refl, sym, ap, _∙_}
 use mathlib.Core.Bool.{Bool, true, false, not, cond, _&&_, _||_}
-use mathlib.Core.List.{List, [], _∷_}
+use mathlib.Core.List.{List, [], _∷_, _++_}
 use native.Mathlib.Omega.{arith}
 use lib.Dec.{eqb, leb}
 use borrow.Author.Tests.{leb-true, le-leb, eqb-true, eq-eqb}
@@ -42,7 +42,7 @@ pub split : (a b : Bool) → (a && b) ≡ true → (a ≡ true) × (b ≡ true)
 split true b e = (refl, e)
 split false b e = (e, cc)
 
-ascends : (i n : ℕ) (ns : List ℕ) → ascendFrom i (n ∷ ns) ≡ true → (isRefusal n ≡ true) × (leb i (rank n) ≡ true) × (ascendFrom (rank n) ns ≡ true)
+pub ascends : (i n : ℕ) (ns : List ℕ) → ascendFrom i (n ∷ ns) ≡ true → (isRefusal n ≡ true) × (leb i (rank n) ≡ true) × (ascendFrom (rank n) ns ≡ true)
 ascends i n ns a =
     let x = split (isRefusal n && leb i (rank n)) (ascendFrom (rank n) ns) a in
     let y = split (isRefusal n) (leb i (rank n)) (x .0) in
@@ -81,6 +81,20 @@ all-refusals i [] a = refl
 all-refusals i (n ∷ ns) a = let x = ascends i n ns a in rw (x .0) (all-refusals (rank n) ns (x .2))
 
 -- and so they are where each stands once
+-- what ascends does so without its end, and with another end that ascends wherever that does
+pub ascend-front : (i : ℕ) (ns ms : List ℕ) → ascendFrom i (ns ++ ms) ≡ true → ascendFrom i ns ≡ true
+ascend-front i [] ms a = refl
+ascend-front i (n ∷ ns) ms a = let x = ascends i n (ns ++ ms) a in rw (x .0, x .1) (ascend-front (rank n) ns ms (x .2))
+
+pub ascend-behind : (ms ks : List ℕ) → ((j : ℕ) → ascendFrom j ms ≡ true → ascendFrom j ks ≡ true) → (i : ℕ) (ns : List ℕ)
+    → ascendFrom i (ns ++ ms) ≡ true → ascendFrom i (ns ++ ks) ≡ true
+ascend-behind ms ks f i [] a = f i a
+ascend-behind ms ks f i (n ∷ ns) a = let x = ascends i n (ns ++ ms) a in rw (x .0, x .1) (ascend-behind ms ks f (rank n) ns (x .2))
+
+pub numbers-more : (ls ks : List Line) → numbers (ls ++ ks) ≡ numbers ls ++ numbers ks
+numbers-more [] ks = refl
+numbers-more (n unless b because d ∷ ls) ks = ap (λ (ns : List ℕ). n ∷ ns) (numbers-more ls ks)
+
 pub once-ascends : (i m : ℕ) (ns : List ℕ) → ascendFrom i ns ≡ true → ascendFrom i (onceAfter m ns) ≡ true
 once-ascends i m [] a = refl
 once-ascends i m (n ∷ ns) a = go (eqb m n) (ascends i n ns a) (once-ascends (rank n) n ns (ascends i n ns a .2))

@@ -7,9 +7,10 @@ use Rattle.label.specs.declared.Parts.{Parts}
 use Rattle.records.specs.Places.{only}
 use Rattle.records.specs.House.{House, house, staff, freelancer, outsider, asNumber, user, script, session}
 use Rattle.records.specs.declared.Draft.{Draft}
+use Rattle.leads.specs.Leads.{leadCount}
 use Rattle.counter.specs.Numbers.{top}
 use Rattle.fields.specs.Fields.{isId, toSixteen, fromOne, isLevel, isSort, isYesNo, isPlain, isFirst}
-use Rattle.conditions.specs.Conditions.{isUser, isRoom, isScript, isSession, isDraft, leads, isStaff, isFreelancer, mayKill, isIn, isAt, isSeated, ofOrigin, sees, seen, draftRoom}
+use Rattle.conditions.specs.Conditions.{isUser, isRoom, isScript, isSession, isDraft, leads, isStaff, isFreelancer, mayKill, isIn, anotherLeads, isAt, isSeated, ofOrigin, sees, seen, draftRoom}
 use Rattle.reasons.specs.Reasons.{Decided, noRecord, aUser, aRoom, aScript, aSession, aDraft}
 use Rattle.reasons.specs.Asking.{Line, _unless_, _because_}
 
@@ -103,6 +104,16 @@ notYetIn h w room = 8 unless not (isIn (user h w) room) because aUser w (user h 
 
 abbrev pub inRoom : House → ℕ → ℕ → Line
 inRoom h w room = 8 unless isIn (user h w) room because aUser w (user h w .rooms) (only room)
+
+-- 02, L6: 0C, then 0D; that another leads the room is asked last
+abbrev pub notYetLead : House → ℕ → ℕ → Line
+notYetLead h w room = 8 unless not (leads (user h w) room) because aUser w (user h w .leads) (only room)
+
+abbrev pub isLead : House → ℕ → ℕ → Line
+isLead h w room = 8 unless leads (user h w) room because aUser w (user h w .leads) (only room)
+
+abbrev pub anotherLead : House → ℕ → Line
+anotherLead h room = 8 unless anotherLeads h room because aRoom room (leadCount h room) 2
 
 -- of the draft d, whose number is v
 abbrev pub draftAmong : ℕ → Draft → ℕ → Line

@@ -9,7 +9,7 @@ use Rattle.reasons.specs.Reasons.{Decided, aUser, aScript, aSession}
 use Rattle.reasons.specs.Asking.{Line}
 use Rattle.reasons.specs.Lines.{anId, roomHigh, roomLow, userExists, roomExists, scriptExists, sessionExists, draftExists, leadsRoom, levelHolds, categoriesHold}
 
--- 03 to 06: u, w and the room. 05 asks its level between the two parts.
+-- 03 to 06, 0C, 0D: u, w and the room. 05 asks its level between the two parts.
 unfoldable pub pairNumbers : ℕ → ℕ → ℕ → List Line
 pairNumbers u w room = anId u ∷ anId w ∷ roomHigh room ∷ roomLow room ∷ []
 

@@ -10,6 +10,7 @@ use Rattle.records.specs.Places.{only}
 use Rattle.records.specs.House.{House, staff, freelancer, outsider, asNumber, user, script, session, draftAt}
 use Rattle.records.specs.declared.Draft.{Draft}
 use Rattle.records.specs.declared.Rule.{Rule}
+use Rattle.leads.specs.Leads.{leadCount}
 use Rattle.fields.specs.Fields.{isId, toSixteen, fromOne, isLevel, isSort, isYesNo, isPlain}
 use Rattle.conditions.specs.Conditions.{noUsers, isUser, isRoom, isScript, isSession, isDraft, leads, isStaff, isFreelancer, mayKill, isIn, isAt, isSeated, ofOrigin, sees, seen, draftRoom}
 use Rattle.reasons.specs.Reasons.{noRecord, aUser, aRoom, aScript, aSession, aDraft, reason}
@@ -56,6 +57,9 @@ pub data Told (rule : Rule) (h : House) : Reason → Type 0 where
   -- 8
   inAlready : (w room : ℕ) → isUser h w ≡ true → isIn (user h w) room ≡ true → Told rule h (reason 8 (aUser w (user h w .rooms) (only room)))
   notIn : (w room : ℕ) → isUser h w ≡ true → isIn (user h w) room ≡ false → Told rule h (reason 8 (aUser w (user h w .rooms) (only room)))
+  leadsAlready : (w room : ℕ) → isUser h w ≡ true → leads (user h w) room ≡ true → Told rule h (reason 8 (aUser w (user h w .leads) (only room)))
+  noLead : (w room : ℕ) → isUser h w ≡ true → leads (user h w) room ≡ false → Told rule h (reason 8 (aUser w (user h w .leads) (only room)))
+  onlyLead : (room : ℕ) → isRoom h room ≡ true → leadCount h room < 2 → Told rule h (reason 8 (aRoom room (leadCount h room) 2))
   notAmong : (v : ℕ) (d : Draft) (place : ℕ) → Live h v d → isAt d place ≡ false → Told rule h (reason 8 (aDraft v (d .places) (only place)))
   isAmong : (v : ℕ) (d : Draft) (place : ℕ) → Live h v d → isAt d place ≡ true → Told rule h (reason 8 (aDraft v (d .places) (only place)))
   unseen : (s v : ℕ) (d : Draft) → isSession h s ≡ true → Live h v d → sees (session h s) (user h (session h s .owner)) d ≡ false

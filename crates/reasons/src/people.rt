@@ -3,7 +3,7 @@ ghost use mathlib.Core.Path.{_≡_};
 ghost use mathlib.Core.List.{[], _∷_};
 ghost use Rattle.records.specs.House.{view};
 ghost use Rattle.reasons.specs.Asking.{asked, both};
-ghost use Rattle.reasons.specs.Lines.{userExists, roomExists, enrollerExists, userNew, roomNew, enrolls, administers, leadsRoom, ofStaff, notOfStaff, aFreelancer, notYetIn, inRoom};
+ghost use Rattle.reasons.specs.Lines.{userExists, roomExists, enrollerExists, userNew, roomNew, enrolls, administers, leadsRoom, ofStaff, notOfStaff, aFreelancer, notYetIn, inRoom, notYetLead, isLead, anotherLead};
 ghost use Rattle.reasons.specs.Shared.{opens};
 use crate::Asked;
 use crate::USER;
@@ -167,6 +167,41 @@ impl Asked {
         let user = records::user_at(records, i);
         let fact = conditions::is_in(records, i, room);
         of_user(8, fact, w, user.rooms, only(room))
+    }
+
+    pub fn not_lead(self, records: &Cells, w: u8, room: u8) -> Asked
+        ensures { λ r. ⌜ r ≡ both self (asked (notYetLead (view (now (records .entry))) w room ∷ [])) ⌝ }
+    {
+        let Asked::Holds = self else {
+            return self;
+        };
+        let i = w as usize;
+        let user = records::user_at(records, i);
+        let fact = !conditions::leads(records, i, room);
+        of_user(8, fact, w, user.leads, only(room))
+    }
+
+    pub fn lead(self, records: &Cells, w: u8, room: u8) -> Asked
+        ensures { λ r. ⌜ r ≡ both self (asked (isLead (view (now (records .entry))) w room ∷ [])) ⌝ }
+    {
+        let Asked::Holds = self else {
+            return self;
+        };
+        let i = w as usize;
+        let user = records::user_at(records, i);
+        let fact = conditions::leads(records, i, room);
+        of_user(8, fact, w, user.leads, only(room))
+    }
+
+    // Of a lead of the room: there is one more.
+    pub fn another_lead(self, records: &Cells, room: u8) -> Asked
+        ensures { λ r. ⌜ r ≡ both self (asked (anotherLead (view (now (records .entry))) room ∷ [])) ⌝ }
+    {
+        let Asked::Holds = self else {
+            return self;
+        };
+        let n = leads::count_leads(records, room);
+        of_room(8, 2 <= n, room, n, 2)
     }
 
     // Of a session that is opened: its label is within the owner's.

@@ -16,7 +16,8 @@ use Rattle.request.specs.Framing.{End, no-bytes, unknown-kind, cut-body,
 use Rattle.request.specs.declared.Frame.{Frame}
 use Rattle.request.specs.declared.Frame.the-variants.{Whole, Unknown, Cut}
 use Rattle.request.specs.declared.Request.{Request}
-use Rattle.request.proofs.Rows.{Each, _&_, Found, found}
+use Rattle.request.proofs.Rows.{Found, found, short-found}
+use Rattle.request.proofs.Spelling.{Right, all-right, headed}
 use Rattle.request.proofs.Ways.{empty}
 use Rattle.request.proofs.RoundTrip.{read-is-written}
 use Rattle.request.proofs.Absurd.{differ}
@@ -26,39 +27,35 @@ pub record Whole-is (b : List ℕ) (q : Request) : Type 0 where
   pub kind : kindOf q ≡ b # 0
   pub size : length (written q) ≡ suc (bodyLength (b # 0))
   pub inside : bodyLength (b # 0) < length b
+  pub few : bodyLength (b # 0) ≤ 8
 
 module _ (b : List ℕ) where
-  abbrev Headed : Row → Type 0
-  Headed r = (kindOf (fieldsFrom b 1 (r .body)) ≡ r .kind) × (length (written (fieldsFrom b 1 (r .body))) ≡ suc (r .length))
-
-  all-headed : Each Headed rows
-  all-headed =
-      (refl, refl) & (refl, refl) & (refl, refl) & (refl, refl) & (refl, refl) & (refl, refl) & (refl, refl) & (refl, refl) & (refl, refl) & (refl, refl)
-      & (refl, refl) & (refl, refl) & (refl, refl) & (refl, refl) & (refl, refl) & (refl, refl) & (refl, refl) & (refl, refl) & (refl, refl) & tt
-
   record OfRow (q : Request) (n : ℕ) : Type 0 where
     kind : kindOf q ≡ b # 0
     size : length (written q) ≡ suc n
     inside : n < length b
+    few : n ≤ 8
 
   pub whole-is : (q : Request) → frameOf b ≡ Whole q → Whole-is b q
   unfolding frameOf bodyLength
-  whole-is q e = let o = first (eqb (length b) 0) e in record { kind = o .kind; size = o .size; inside = o .inside }
+  whole-is q e = let o = first (eqb (length b) 0) e in record { kind = o .kind; size = o .size; inside = o .inside; few = o .few }
     where
-      whole : (r : Row) → Found Headed (b # 0) r → (t : Bool) → leb (length b) (r .length) ≡ t
+      whole : (r : Row) → Found Right (b # 0) r → r .length ≤ 8 → (t : Bool) → leb (length b) (r .length) ≡ t
           → cond t Cut (Whole (fieldsFrom b 1 (r .body))) ≡ Whole q → OfRow q (r .length)
-      whole r f true l e = differ cc
-      whole r f false l e =
+      whole r f few true l e = differ cc
+      whole r f few false l e =
+          let h = headed b r (f .holds) in
           let same : fieldsFrom b 1 (r .body) ≡ q = cc in
           record {
-            kind = ap kindOf (sym same) ∙ f .holds .0 ∙ sym (f .kind);
-            size = ap (λ (p : Request). length (written p)) (sym same) ∙ f .holds .1;
+            kind = ap kindOf (sym same) ∙ h .0 ∙ sym (f .kind);
+            size = let e = ap (λ (p : Request). length (written p)) (sym same) ∙ h .1 in omega (arith, e);
             inside = leb-false (length b) (r .length) l;
+            few = few;
           }
 
       row-of : (s : Sought) → find rows (b # 0) ≡ s → frameAt s b ≡ Whole q → OfRow q (lengthAt s)
       row-of none f e = differ cc
-      row-of (at r) f e = whole r (found Headed (b # 0) r rows all-headed f) (leb (length b) (r .length)) refl e
+      row-of (at r) f e = whole r (found Right (b # 0) r rows all-right f) (short-found (b # 0) r rows tt f) (leb (length b) (r .length)) refl e
 
       first : (t : Bool) → cond t Cut (frameAt (find rows (b # 0)) b) ≡ Whole q → OfRow q (lengthAt (find rows (b # 0)))
       first true e = differ cc

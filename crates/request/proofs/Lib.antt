@@ -2,6 +2,9 @@
 pub mod Absurd
 pub mod Rows
 pub mod Ranges
+pub mod Spelling
 pub mod Ways
+pub mod More
 pub mod RoundTrip
 pub mod Framing
+pub mod Framed

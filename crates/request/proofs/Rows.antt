@@ -2,12 +2,12 @@
 use mathlib.Core.Path.{_≡_, refl, _∙_, subst}
 use mathlib.Core.Bool.{Bool, true, false, cond, _&&_}
 use mathlib.Core.List.{List, [], _∷_}
-use Prim.Native.Nat.{ℕ}
+use Prim.Native.Nat.{ℕ, _≤_}
 use native.Mathlib.Omega.{arith}
 use lib.Dec.{T, eqb, ltb, ltb→lt}
 use lib.Ieee.Fits.{and-l, and-r}
 use borrow.Author.Tests.{ne-eqb, eqb-true}
-use Rattle.request.specs.Kinds.{Row, at, none, find, rows, lengthAt}
+use Rattle.request.specs.Kinds.{Row, Sought, at, none, find, rows, lengthAt}
 use Rattle.request.proofs.Absurd.{differ}
 
 -- ---- a property of every row is the found row's, whose kind is the one looked for
@@ -59,23 +59,36 @@ differs (j ∷ js) x n k t e = go (eqb k j) refl t (λ u. differs js x (n .0) k 
     go true q t later = n .1 (e ∙ eqb-true k j q)
     go false q t later = later t
 
--- the kinds of 01's table, the last first
+-- the kinds of the rows, the last first
+abbrev kindsOf : List Row → List ℕ → List ℕ
+kindsOf [] ks = ks
+kindsOf (r ∷ rs) ks = kindsOf rs (r .kind ∷ ks)
+
 abbrev pub kinds : List ℕ
-kinds =
-    0x20 ∷ 0x16 ∷ 0x15 ∷ 0x14 ∷ 0x13 ∷ 0x12 ∷ 0x11 ∷ 0x10 ∷ 0x0B ∷ 0x0A ∷ 0x09 ∷ 0x08 ∷ 0x07 ∷ 0x06 ∷ 0x05 ∷ 0x04 ∷ 0x03 ∷ 0x02 ∷ 0x01 ∷ []
+kinds = kindsOf rows []
 
 pub not-a-kind : (x : ℕ) → NoneOf kinds x → find rows x ≡ none
 not-a-kind x n = absent (among kinds) x (differs kinds x n) rows tt
 
--- ---- only a kind without a row has the length 255
-abbrev short : List Row → Bool
+-- ---- no body has more than eight bytes, so only a kind without a row has the length 255
+abbrev pub short : List Row → Bool
 short [] = true
-short (r ∷ rs) = ltb (r .length) 255 && short rs
+short (r ∷ rs) = ltb (r .length) 9 && short rs
 
-pub unknown-kind : (x : ℕ) (rs : List Row) → T (short rs) → lengthAt (find rs x) ≡ 255 → find rs x ≡ none
-unknown-kind x [] t e = refl
-unknown-kind x (r ∷ rs) t e = go (eqb x (r .kind)) e (unknown-kind x rs (and-r (ltb (r .length) 255) (short rs) t))
+short-first : (r : Row) (rs : List Row) → T (short (r ∷ rs)) → r .length ≤ 8
+short-first r rs t = let below = ltb→lt (r .length) 9 (and-l (ltb (r .length) 9) (short rs) t) in omega (arith, below)
+
+pub short-found : (x : ℕ) (r : Row) (rs : List Row) → T (short rs) → find rs x ≡ at r → r .length ≤ 8
+short-found x r [] t e = differ (cc)
+short-found x r (s ∷ rs) t e = go (eqb x (s .kind)) e (short-found x r rs (and-r (ltb (s .length) 9) (short rs) t))
   where
-    go : (b : Bool) → lengthAt (cond b (at r) (find rs x)) ≡ 255 → (lengthAt (find rs x) ≡ 255 → find rs x ≡ none) → cond b (at r) (find rs x) ≡ none
-    go true q later = let below = ltb→lt (r .length) 255 (and-l (ltb (r .length) 255) (short rs) t) in absurd (omega (arith, below, q))
-    go false q later = later q
+    go : (b : Bool) → cond b (at s) (find rs x) ≡ at r → (find rs x ≡ at r → r .length ≤ 8) → r .length ≤ 8
+    go true e later = let same : s ≡ r = cc in subst (λ (y : Row). y .length ≤ 8) same (short-first s rs t)
+    go false e later = later e
+
+pub unknown-kind : (x : ℕ) → lengthAt (find rows x) ≡ 255 → find rows x ≡ none
+unknown-kind x e = go (find rows x) refl e
+  where
+    go : (s : Sought) → find rows x ≡ s → lengthAt s ≡ 255 → s ≡ none
+    go none f e = refl
+    go (at r) f e = absurd (omega (arith, short-found x r rows tt f, e))

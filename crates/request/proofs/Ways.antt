@@ -1,7 +1,8 @@
 -- The ways through `read`, each as a law of `frameOf`.
 use mathlib.Core.Path.{_≡_, refl, sym, ap, _∙_, subst}
 use mathlib.Core.List.{List, [], _∷_}
-use Prim.Native.Nat.{ℕ, _≤_, _<_}
+use Prim.Native.Nat.{ℕ, zero, suc, _+_, _≤_, _<_}
+use native.Mathlib.Omega.{arith}
 use lib.ListN.{length}
 use borrow.Author.Tests.{eq-eqb, ne-eqb, le-leb, lt-leb}
 use Rattle.request.specs.Bytes.{_#_}
@@ -9,7 +10,8 @@ use Rattle.request.specs.Kinds.{Row, Sought, at, none, rows, find, lengt
 use Rattle.request.specs.Reading.{fieldsFrom, requestAt, requestOf, frameAt, frameOf}
 use Rattle.request.specs.declared.Frame.the-variants.{Whole, Unknown, Cut}
 use Rattle.request.specs.declared.Request.{Request}
-use Rattle.request.proofs.Rows.{Each, _&_, found, unknown-kind}
+use Rattle.request.proofs.Rows.{found, short-found, unknown-kind}
+use Rattle.request.proofs.Spelling.{Right, all-right, fields-alike}
 
 pub empty : (b : List ℕ) → length b ≡ 0 → Cut ≡ frameOf b
 unfolding frameOf
@@ -35,7 +37,7 @@ module _ (b : List ℕ) (ne : length b ≡ 0 → ⊥) (x n : ℕ) (is-kind : x �
   length-is = sym (is-length ∙ ap (λ (k : ℕ). lengthAt (find rows k)) is-kind)
 
   pub unknown : n ≡ 255 → Unknown ≡ frameOf b
-  unknown e = sym (by-row b ne none (unknown-kind (b # 0) rows tt (length-is ∙ e)))
+  unknown e = sym (by-row b ne none (unknown-kind (b # 0) (length-is ∙ e)))
 
   module _ (known : n ≡ 255 → ⊥) where
     pub cut : length b ≤ n → Cut ≡ frameOf b
@@ -53,16 +55,23 @@ module _ (b : List ℕ) (ne : length b ≡ 0 → ⊥) (x n : ℕ) (is-kind : x �
 abbrev nine : List ℕ → List ℕ
 nine b = b # 0 ∷ b # 1 ∷ b # 2 ∷ b # 3 ∷ b # 4 ∷ b # 5 ∷ b # 6 ∷ b # 7 ∷ b # 8 ∷ []
 
-abbrev Within : List ℕ → Row → Type 0
-Within b r = fieldsFrom (nine b) 1 (r .body) ≡ fieldsFrom b 1 (r .body)
-
-all-within : (b : List ℕ) → Each (Within b) rows
-all-within b =
-    refl & refl & refl & refl & refl & refl & refl & refl & refl & refl & refl & refl & refl & refl & refl & refl & refl & refl & refl & tt
+nine-alike : (b : List ℕ) (j : ℕ) → j < 9 → nine b # j ≡ b # j
+nine-alike b zero h = refl
+nine-alike b (suc zero) h = refl
+nine-alike b (suc (suc zero)) h = refl
+nine-alike b (suc (suc (suc zero))) h = refl
+nine-alike b (suc (suc (suc (suc zero)))) h = refl
+nine-alike b (suc (suc (suc (suc (suc zero))))) h = refl
+nine-alike b (suc (suc (suc (suc (suc (suc zero)))))) h = refl
+nine-alike b (suc (suc (suc (suc (suc (suc (suc zero))))))) h = refl
+nine-alike b (suc (suc (suc (suc (suc (suc (suc (suc zero)))))))) h = refl
+nine-alike b (suc (suc (suc (suc (suc (suc (suc (suc (suc j))))))))) h = absurd (omega arith)
 
 pub nine-will-do : (x : ℕ) (b : List ℕ) → requestOf x (nine b) ≡ requestOf x b
 nine-will-do x b = go (find rows x) refl
   where
     go : (s : Sought) → find rows x ≡ s → requestAt s (nine b) ≡ requestAt s b
-    go (at r) e = found (Within b) x r rows (all-within b) e .holds
+    go (at r) e =
+        let few = short-found x r rows tt e in
+        fields-alike (r .kind) (1 + r .length) (nine b) b (λ j h. nine-alike b j (omega (arith, few, h))) (r .body) [] 1 (found Right x r rows all-right e .holds)
     go none e = refl

@@ -9,7 +9,6 @@ use Rattle.request.specs.Kinds.{Body, one, two, four, make, Sought, at, 
 use Rattle.request.specs.declared.Frame.{Frame}
 use Rattle.request.specs.declared.Frame.the-variants.{Whole, Unknown, Cut}
 use Rattle.request.specs.declared.Request.{Request}
-use Rattle.request.specs.declared.Request.the-variants.{TakeBack}
 
 -- the request whose fields start at byte i
 abbrev pub fieldsFrom : List ℕ → ℕ → Body → Request
@@ -21,7 +20,7 @@ fieldsFrom b i (make q) = q
 -- the request of a row; without a row it is not asked for
 abbrev pub requestAt : Sought → List ℕ → Request
 requestAt (at r) b = fieldsFrom b 1 (r .body)
-requestAt none b = TakeBack 0
+requestAt none b = Request.TakeBack 0
 
 abbrev pub requestOf : ℕ → List ℕ → Request
 requestOf kind b = requestAt (find rows kind) b

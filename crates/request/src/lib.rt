@@ -75,6 +75,16 @@ pub enum Request {
         u: u8,
         room: u8,
     },
+    MakeLead {
+        u: u8,
+        w: u8,
+        room: u8,
+    },
+    EndLead {
+        u: u8,
+        w: u8,
+        room: u8,
+    },
     OpenInRoom {
         u: u8,
         session: u8,
@@ -153,7 +163,8 @@ pub fn body_length(kind: u32) -> u32
     let n = if kind < 0x09 { n } else { 8 };
     let n = if kind < 0x0A { n } else { 7 };
     let n = if kind < 0x0B { n } else { 2 };
-    let n = if kind < 0x0C { n } else { UNKNOWN };
+    let n = if kind < 0x0C { n } else { 3 };
+    let n = if kind < 0x0E { n } else { UNKNOWN };
     let n = if kind < 0x10 { n } else { 6 };
     let n = if kind < 0x11 { n } else { 5 };
     let n = if kind < 0x13 { n } else { 6 };

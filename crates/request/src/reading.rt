@@ -101,6 +101,16 @@ pub fn request_of(
             room: b7,
         },
         0x0B => Request::Disband { u: b1, room: b2 },
+        0x0C => Request::MakeLead {
+            u: b1,
+            w: b2,
+            room: b3,
+        },
+        0x0D => Request::EndLead {
+            u: b1,
+            w: b2,
+            room: b3,
+        },
         0x10 => Request::OpenInRoom {
             u: b1,
             session: b2,

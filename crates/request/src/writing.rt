@@ -110,6 +110,8 @@ pub fn write(request: Request) -> FrameBytes
             [0x0A, u, script, v.a, v.b, v.c, v.d, room, 0]
         }
         Request::Disband { u, room } => [0x0B, u, room, 0, 0, 0, 0, 0, 0],
+        Request::MakeLead { u, w, room } => [0x0C, u, w, room, 0, 0, 0, 0, 0],
+        Request::EndLead { u, w, room } => [0x0D, u, w, room, 0, 0, 0, 0, 0],
         Request::OpenInRoom {
             u,
             session,

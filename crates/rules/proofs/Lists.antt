@@ -1,18 +1,19 @@
 -- Lists: what a new element, a map, a filter and one element more do to what stands at a place, to a rule of each, and to whether there is one.
 use Prim.Native.Nat.{ℕ, zero, suc, _+_, _≤_, _<_}
-use mathlib.Core.Path.{_≡_, refl, sym, ap, _∙_}
+use mathlib.Core.Path.{_≡_, refl, sym, ap, _∙_, subst}
 use mathlib.Core.Bool.{Bool, true, false, cond, _||_}
 use mathlib.Core.List.{List, [], _∷_, _++_, map}
 use native.Mathlib.Omega.{arith}
 use native.Mathlib.Nat.{add-zero, zero-add, add-suc, suc-add}
 use native.Mathlib.Decide.{ℕ-discrete}
-use lib.Dec.{eqb}
+use lib.Dec.{leb}
+use borrow.Author.Tests.{le-leb}
 use lib.ListN.{length, take, getD, set, List·getD-map}
 use lib.Seq.{getD-set-same, getD-set-other}
 use Rattle.records.specs.Lists.{any, all, allFrom, count, filter, mapFrom}
-use Rattle.rules.specs.Lists.{Each, Once}
+use Rattle.rules.specs.Lists.{Each, Somewhere}
 use Rattle.rules.specs.Facts.{Is}
-use Rattle.rules.proofs.Bools.{clash, either, second, equal, said, _and_}
+use Rattle.rules.proofs.Bools.{clash, either, second, said, _and_}
 
 -- ---- what stands at a place
 module _ {A : Type 0} (d : A) where
@@ -135,7 +136,7 @@ module _ {A : Type 0} where
   each-any t r (x ∷ xs) =
       (rw (r x), each-imp (λ y. any (t y) xs ≡ true) (λ y. (t y x || any (t y) xs) ≡ true) xs (λ y h. second (t y x) h) (each-any t r xs))
 
--- ---- tests over a list and what they say: of what stands at every place, past the end too; of each; of some place; of exactly one
+-- ---- tests over a list and what they say: of what stands at every place, past the end too; of each; of some place, and of another one
 module _ {A : Type 0} where
   pub each-is : (t : A → Bool) (P : A → Type 0) → ((x : A) → Is (t x) (P x)) → (l : List A) → Is (all t l) (Each P l)
   each-is t P s [] = record { says = λ _. tt; shown = λ _. refl }
@@ -167,71 +168,49 @@ module _ {A : Type 0} (d : A) where
   places-are t P s z l = said (from t P s z 0 l) (λ f i. rw zero-add at (f i)) (λ f i. rw zero-add (f i))
 
   -- p holds at some place
-  pub record Somewhere (p : A → Bool) (l : List A) : Type 0 where
-    pub where-it-is : ℕ
-    pub holds : p (getD l where-it-is d) ≡ true
-
-  pub somewhere : (p : A → Bool) → p d ≡ false → (l : List A) → Is (any p l) (Somewhere p l)
+  pub somewhere : (p : A → Bool) → p d ≡ false → (l : List A) → Is (any p l) (Somewhere d p l)
   somewhere p z [] = record { says = λ h. clash h refl; shown = λ e. clash (e .holds) z }
   somewhere p z (x ∷ xs) = go (p x) refl (somewhere p z xs)
     where
-      go : (b : Bool) → p x ≡ b → Is (any p xs) (Somewhere p xs) → Is (b || any p xs) (Somewhere p (x ∷ xs))
+      go : (b : Bool) → p x ≡ b → Is (any p xs) (Somewhere d p xs) → Is (b || any p xs) (Somewhere d p (x ∷ xs))
       go true q s = record { says = λ _. record { where-it-is = 0; holds = q }; shown = λ _. refl }
       go false q s = record {
         says = λ h. let e = s .says h in record { where-it-is = suc (e .where-it-is); holds = e .holds };
         shown = λ e. s .shown (later (e .where-it-is) (e .holds));
       }
         where
-          later : (i : ℕ) → p (getD (x ∷ xs) i d) ≡ true → Somewhere p xs
+          later : (i : ℕ) → p (getD (x ∷ xs) i d) ≡ true → Somewhere d p xs
           later zero h = clash h q
           later (suc i) h = record { where-it-is = i; holds = h }
 
   module _ (p : A → Bool) (z : p d ≡ false) where
-    none-count : (l : List A) → ((i : ℕ) → p (getD l i d) ≡ false) → count p l ≡ 0
-    none-count [] f = refl
-    none-count (x ∷ xs) f = rw (f 0) (none-count xs (λ i. f (suc i)))
-
-    count-none : (l : List A) → count p l ≡ 0 → (i : ℕ) → p (getD l i d) ≡ false
-    count-none [] e i = z
-    count-none (x ∷ xs) e i = go (p x) refl e (count-none xs) i
+    -- where one or more are counted there is one
+    count-any : (l : List A) → leb 1 (count p l) ≡ any p l
+    count-any [] = refl
+    count-any (x ∷ xs) = go (p x) (count-any xs)
       where
-        go : (b : Bool) → p x ≡ b → cond b (suc (count p xs)) (count p xs) ≡ 0 → (count p xs ≡ 0 → (i : ℕ) → p (getD xs i d) ≡ false)
-            → (i : ℕ) → p (getD (x ∷ xs) i d) ≡ false
-        go true q r f i = absurd (omega arith)
-        go false q r f zero = q
-        go false q r f (suc i) = f r i
+        go : (b : Bool) → leb 1 (count p xs) ≡ any p xs → leb 1 (cond b (suc (count p xs)) (count p xs)) ≡ (b || any p xs)
+        go true e = le-leb 1 (suc (count p xs)) (omega arith)
+        go false e = e
 
-    count-one : (l : List A) → count p l ≡ 1 → Once d p l
-    count-one [] e = absurd (omega arith)
-    count-one (x ∷ xs) e = go (p x) refl e (count-one xs)
+    pub counted : (l : List A) → Is (leb 1 (count p l)) (Somewhere d p l)
+    counted l = subst (λ (b : Bool). Is b (Somewhere d p l)) (sym (count-any l)) (somewhere p z l)
+
+    -- where two or more are counted there is one at another place than w
+    pub record Elsewhere (l : List A) (w : ℕ) : Type 0 where
+      pub place : ℕ
+      pub holds : p (getD l place d) ≡ true
+      pub other : place ≡ w → ⊥
+
+    behind : (x : A) (xs : List A) → 1 ≤ count p xs → Elsewhere (x ∷ xs) 0
+    behind x xs n = let s = counted xs .says (le-leb 1 (count p xs) n) in record { place = suc (s .where-it-is); holds = s .holds; other = λ e. omega arith }
+
+    pub elsewhere : (l : List A) (w : ℕ) → 2 ≤ count p l → Elsewhere l w
+    elsewhere [] w n = absurd (omega arith)
+    elsewhere (x ∷ xs) w n = go (p x) refl w n (elsewhere xs)
       where
-        go : (b : Bool) → p x ≡ b → cond b (suc (count p xs)) (count p xs) ≡ 1 → (count p xs ≡ 1 → Once d p xs) → Once d p (x ∷ xs)
-        go true q r f = record { at-place = 0; holds = q; only = only }
-          where
-            only : (j : ℕ) → p (getD (x ∷ xs) j d) ≡ true → j ≡ 0
-            only zero k = refl
-            only (suc j) k = clash k (count-none xs (omega arith) j)
-        go false q r f = let o = f r in record { at-place = suc (o .at-place); holds = o .holds; only = only }
-          where
-            only : (j : ℕ) → p (getD (x ∷ xs) j d) ≡ true → j ≡ suc (f r .at-place)
-            only zero k = clash k q
-            only (suc j) k = ap suc (f r .only j k)
-
-    one-count : (l : List A) (w : ℕ) → p (getD l w d) ≡ true → ((j : ℕ) → p (getD l j d) ≡ true → j ≡ w) → count p l ≡ 1
-    one-count [] w h f = clash h z
-    one-count (x ∷ xs) zero h f = rw h (ap suc (none-count xs (λ i. lone i (p (getD xs i d)) refl)))
-      where
-        lone : (i : ℕ) (b : Bool) → p (getD xs i d) ≡ b → p (getD xs i d) ≡ false
-        lone i true q = absurd (omega (arith, f (suc i) q))
-        lone i false q = q
-    one-count (x ∷ xs) (suc w) h f = go (p x) refl (one-count xs w h (λ j k. less (f (suc j) k)))
-      where
-        less : {j : ℕ} → suc j ≡ suc w → j ≡ w
-        less e = omega arith
-
-        go : (b : Bool) → p x ≡ b → count p xs ≡ 1 → cond b (suc (count p xs)) (count p xs) ≡ 1
-        go true q r = absurd (omega (arith, f 0 q))
-        go false q r = r
-
-    pub once : (l : List A) → Is (eqb (count p l) 1) (Once d p l)
-    once l = said equal (count-one l) (λ o. one-count l (o .at-place) (o .holds) (o .only))
+        go : (b : Bool) → p x ≡ b → (w : ℕ) → 2 ≤ cond b (suc (count p xs)) (count p xs) → ((w : ℕ) → 2 ≤ count p xs → Elsewhere xs w) → Elsewhere (x ∷ xs) w
+        go true q zero n later = behind x xs (omega arith)
+        go true q (suc w) n later = record { place = 0; holds = q; other = λ e. omega arith }
+        go false q zero n later = behind x xs (omega arith)
+        go false q (suc w) n later = let o = later w n in record { place = suc (o .place); holds = o .holds; other = λ e. o .other (omega arith) }

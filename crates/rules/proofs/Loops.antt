@@ -8,7 +8,7 @@ use native.Mathlib.Decide.{ℕ-discrete}
 use native.Mathlib.Numerals.{add-one}
 use lib.ListN.{length, drop, getD}
 use lib.Seq.{drop-cons}
-use Rattle.records.specs.Lists.{any, all, count}
+use Rattle.records.specs.Lists.{any, all}
 use Rattle.records.specs.Places.{roomNumbers}
 use Rattle.rules.proofs.Bools.{clash, itself}
 use Rattle.rules.proofs.Sets.{rooms-all, rooms-any}
@@ -35,9 +35,6 @@ module _ {A : Type 0} (l : List A) (i : ℕ) (d : A) (h : i < length l) where
 
   pub any-behind : (p : A → Bool) → p (getD l i d) ≡ false → any p (drop i l) ≡ any p (drop (i + 1) l)
   any-behind p e = any-next p ∙ rw e
-
-  pub count-next : (p : A → Bool) → count p (drop i l) ≡ cond (p (getD l i d)) (suc (count p (drop (i + 1) l))) (count p (drop (i + 1) l))
-  count-next p = ap (count p) next
 
   -- Q asks q of the element at hand, and Q' of those behind it
   module _ (Q Q' : List A → Bool) (q : Bool) (is : Q (getD l i d ∷ drop (i + 1) l) ≡ (q && Q' (drop (i + 1) l))) where

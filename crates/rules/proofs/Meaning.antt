@@ -19,11 +19,11 @@ use Rattle.records.specs.declared.Script.{Script}
 use Rattle.records.specs.declared.Session.{Session}
 use Rattle.records.specs.declared.Draft.{Draft}
 use Rattle.records.proofs.Places.{has-none, has-with, has-contains}
-use Rattle.rules.specs.Rules.{_implies_, isPlace, places, roomsThere, sessionThere, originThere, draftThere, administered, staffIfTrusted, ledByOne, bareIfOutsider, ownedWell, within, inItsRoom, atHomeOrOneRoom, hasDraft, ascending, labelFits, userFits, scriptFits, sessionFits, bounded, namedThere, rules}
+use Rattle.rules.specs.Rules.{_implies_, isPlace, places, roomsThere, sessionThere, originThere, draftThere, administered, staffIfTrusted, isLed, bareIfOutsider, ownedWell, within, inItsRoom, atHomeOrOneRoom, hasDraft, ascending, labelFits, userFits, scriptFits, sessionFits, bounded, namedThere, rules}
 use Rattle.rules.specs.Facts.{Is, Among, RoomNumber, SomeRoom, LabelFits, Place, Bare, Administered, Led, Within, HousePlaces, with-house, one-room, Filed, Ascending, Rules}
-use Rattle.rules.specs.Lists.{Each}
+use Rattle.rules.specs.Lists.{Each, Somewhere}
 use Rattle.rules.proofs.Bools.{clash, second, left, right, itself, fails, equal, unequal, less, atMost, said, _and_, _else_, _then_}
-use Rattle.rules.proofs.Lists.{each-imp, each-both, each-is, everywhere, places-are, Somewhere, somewhere, once}
+use Rattle.rules.proofs.Lists.{each-imp, each-both, each-is, everywhere, places-are, somewhere, counted}
 use Rattle.rules.proofs.Sets.{among, room-number, rooms-all, rooms-any}
 
 pub zero-fits : LabelFits 0 0
@@ -205,10 +205,10 @@ administered-is h = said (somewhere noUser (λ u. u .here) refl (h .users) then 
     back : Administered (h .users) → Somewhere noUser (λ u. u .here && u .admin) (h .users)
     back a = record { where-it-is = a .who; holds = rw (a .is-here, a .is-admin) }
 
-led-is : (h : House) → Is (all (ledByOne h) roomNumbers)
+led-is : (h : House) → Is (all (isLed h) roomNumbers)
     ((r : ℕ) → RoomNumber r → has (h .rooms) r ≡ true → Led (h .users) r)
-led-is h = rooms-all (ledByOne h) (λ r. has (h .rooms) r ≡ true → Led (h .users) r)
-    (λ r. itself then once noUser (λ u. has (u .leads) r) (has-none r) (h .users))
+led-is h = rooms-all (isLed h) (λ r. has (h .rooms) r ≡ true → Led (h .users) r)
+    (λ r. itself then counted noUser (λ u. has (u .leads) r) (has-none r) (h .users))
 
 -- ---- the rules by the test's words, in their order; what `and` joins is taken apart once, for each record
 record Bounded (h : House) (last : ℕ) : Type 0 where
@@ -269,7 +269,7 @@ record Told (h : House) (last : ℕ) : Type 0 where
   named : NamedThere h
   ruled : (i : ℕ) → user h i .here ≡ true → Administered (h .users)
   staff-only : (i : ℕ) → StaffOnly (user h i)
-  one-lead : (r : ℕ) → RoomNumber r → has (h .rooms) r ≡ true → Led (h .users) r
+  some-lead : (r : ℕ) → RoomNumber r → has (h .rooms) r ≡ true → Led (h .users) r
   bare : (i : ℕ) → OutsiderBare (user h i)
   owned : (i : ℕ) → session h i .writes ≡ true → Owned (user h (session h i .owner)) (session h i)
   inside : (i : ℕ) → OwnerCovers h (session h i)
@@ -301,7 +301,7 @@ told-is h last = said
       named = t .0 .0 .0 .0 .0 .0 .0 .0 .0 .0 .0 .1;
       ruled = t .0 .0 .0 .0 .0 .0 .0 .0 .0 .0 .1;
       staff-only = t .0 .0 .0 .0 .0 .0 .0 .0 .0 .1;
-      one-lead = t .0 .0 .0 .0 .0 .0 .0 .0 .1;
+      some-lead = t .0 .0 .0 .0 .0 .0 .0 .0 .1;
       bare = t .0 .0 .0 .0 .0 .0 .0 .1;
       owned = t .0 .0 .0 .0 .0 .0 .1;
       inside = t .0 .0 .0 .0 .0 .1;
@@ -314,7 +314,7 @@ told-is h last = said
     (λ t. (
       (
         (
-          (((((((((t .bounds, t .named), t .ruled), t .staff-only), t .one-lead), t .bare), t .owned), t .inside), t .room-drafts), t .house-drafts),
+          (((((((((t .bounds, t .named), t .ruled), t .staff-only), t .some-lead), t .bare), t .owned), t .inside), t .room-drafts), t .house-drafts),
           t .each-drafted,
         ),
         t .each-placed,
@@ -354,7 +354,7 @@ module _ (h : House) (last : ℕ) where
             outsider-bare = t .bare i;
           };
           administered = t .ruled;
-          led = λ r k. t .one-lead r (room-number r (b .rooms-fit r k)) k;
+          led = λ r k. t .some-lead r (room-number r (b .rooms-fit r k)) k;
         };
         seats = record {
           size = b .sessions-64;
@@ -408,7 +408,7 @@ module _ (h : House) (last : ℕ) where
         };
         ruled = R .people .administered;
         staff-only = λ i. (u i .admin-staff, u i .lead-staff);
-        one-lead = λ r _. R .people .led r;
+        some-lead = λ r _. R .people .led r;
         bare = λ i. u i .outsider-bare;
         owned = λ i w. (x i .writing w .house-staff, x i .writing w .room-member);
         inside = λ i. x i .within;

@@ -15,7 +15,7 @@ use Rattle.records.specs.declared.Session.{Session}
 use Rattle.records.specs.declared.Script.{Script}
 use Rattle.records.specs.declared.Draft.{Draft}
 use Rattle.rules.specs.Facts.{Is}
-use Rattle.rules.specs.Rules.{_implies_, userFits, roomsThere, staffIfTrusted, bareIfOutsider, sessionFits, sessionThere, ownedWell, within, scriptFits, originThere, draftThere, inItsRoom, atHomeOrOneRoom, administered, staffOnly, oneLead, outsidersBare, sessionsOwned, sessionsWithin, roomDrafts, houseDrafts, eachDrafted, eachPlaced, numbersRise, rules}
+use Rattle.rules.specs.Rules.{_implies_, userFits, roomsThere, staffIfTrusted, bareIfOutsider, sessionFits, sessionThere, ownedWell, within, scriptFits, originThere, draftThere, inItsRoom, atHomeOrOneRoom, administered, staffOnly, allLed, outsidersBare, sessionsOwned, sessionsWithin, roomDrafts, houseDrafts, eachDrafted, eachPlaced, numbersRise, rules}
 use Rattle.rules.specs.Walks.{userKeeps, sessionKeeps, scriptKeeps, draftKeeps}
 use Rattle.rules.proofs.Bools.{itself, said, _and_}
 use Rattle.rules.proofs.Loops.{between}
@@ -71,7 +71,7 @@ module _ (h : House) (last : ℕ) where
   abbrev pub byTables : Bool
   byTables =
       contains 0x1FFFE (h .rooms)
-      && all (userKeeps h) (h .users) && administered h && oneLead h
+      && all (userKeeps h) (h .users) && administered h && allLed h
       && all (sessionKeeps h) (h .sessions)
       && (all (scriptKeeps h) (h .scripts) && eachDrafted h)
       && (all (draftKeeps h) (h .drafts) && numbersRise h last)
@@ -83,7 +83,7 @@ module _ (h : House) (last : ℕ) where
     staff-trusted : Pass staffIfTrusted (h .users)
     outsiders-bare : Pass bareIfOutsider (h .users)
     an-admin : administered h ≡ true
-    led : oneLead h ≡ true
+    led : allLed h ≡ true
     sessions-fit : Pass sessionFits (h .sessions)
     sessions-there : Pass (sessionThere h) (h .sessions)
     sessions-owned : Pass (owned h) (h .sessions)
@@ -152,7 +152,7 @@ module _ (h : House) (last : ℕ) where
           and test (eqb (length (h .sessions)) 64) and test (all sessionFits (h .sessions))
           and test (leb (length (h .drafts)) 256) and test (leb last 4294967295))
           and (test (all (roomsThere h) (h .users)) and test (all (sessionThere h) (h .sessions)) and test (all (originThere h) (h .scripts)) and test (all (draftThere h) (h .drafts)))
-          and test (administered h) and test (staffOnly h) and test (oneLead h) and test (outsidersBare h) and test (sessionsOwned h) and test (sessionsWithin h)
+          and test (administered h) and test (staffOnly h) and test (allLed h) and test (outsidersBare h) and test (sessionsOwned h) and test (sessionsWithin h)
           and test (roomDrafts h) and test (houseDrafts h) and test (eachDrafted h) and test (eachPlaced h) and test (numbersRise h last)) .says e in
           let b = t .0 .0 .0 .0 .0 .0 .0 .0 .0 .0 .0 .0 in
           let n = t .0 .0 .0 .0 .0 .0 .0 .0 .0 .0 .0 .1 in

@@ -1,4 +1,4 @@
--- The record rules of 01 as facts with names, in three parts: people, seats and texts. `rules-are` shows that they are what `rules` tests.
+-- The record rules of 01, as 02 amends them, as facts with names, in three parts: people, seats and texts. `rules-are` shows that they are what `rules` tests.
 use Prim.Native.Nat.{ℕ, _≤_, _<_}
 use mathlib.Core.Path.{_≡_}
 use mathlib.Core.Bool.{Bool, true, false}
@@ -13,7 +13,7 @@ use Rattle.records.specs.declared.User.{User}
 use Rattle.records.specs.declared.Script.{Script}
 use Rattle.records.specs.declared.Session.{Session}
 use Rattle.records.specs.declared.Draft.{Draft}
-use Rattle.rules.specs.Lists.{Each, Once}
+use Rattle.rules.specs.Lists.{Each, Somewhere}
 
 -- the test b holds exactly where P does
 pub record Is (b : Bool) (P : Type 0) : Type 0 where
@@ -64,9 +64,9 @@ pub record Administered (users : List User) : Type 0 where
   pub is-here : getD users who noUser .here ≡ true
   pub is-admin : getD users who noUser .admin ≡ true
 
--- one user leads the room r
+-- somebody leads the room r
 abbrev pub Led : List User → ℕ → Type 0
-Led users r = Once noUser (λ u. has (u .leads) r) users
+Led users r = Somewhere noUser (λ u. has (u .leads) r) users
 
 pub record People (rooms : ℕ) (users : List User) : Type 0 where
   pub size : length users ≡ 64

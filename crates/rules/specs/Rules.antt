@@ -1,14 +1,15 @@
--- The record rules of 01, "Every desk reached from an opening meets these record rules": a test for each clause, which code makes too.
+-- The record rules of 01, "Every desk reached from an opening meets these record rules", as 02 amends them: a test for each clause, which code makes too.
 use Prim.Native.Nat.{ℕ}
 use mathlib.Core.Bool.{Bool, true, not, _&&_, _||_}
 use mathlib.Core.List.{List, [], _∷_}
 use lib.Dec.{eqb, leb, ltb}
 use lib.ListN.{length}
-use Rattle.records.specs.Lists.{any, all, allFrom, count}
+use Rattle.records.specs.Lists.{any, all, allFrom}
 use Rattle.label.specs.Labels.{contains, covers}
 use Rattle.records.specs.Places.{has, with, only, roomNumbers}
 use Rattle.records.specs.House.{House, house, noPlace, staff, outsider, user, script}
 use Rattle.records.specs.Lookups.{ofScript, placed}
+use Rattle.leads.specs.Leads.{leadCount}
 use Rattle.records.specs.declared.User.{User}
 use Rattle.records.specs.declared.Script.{Script}
 use Rattle.records.specs.declared.Session.{Session}
@@ -54,12 +55,12 @@ staffIfTrusted u = (u .admin || not (eqb (u .leads) 0)) implies eqb (u .sort) st
 abbrev pub staffOnly : House → Bool
 staffOnly h = all staffIfTrusted (h .users)
 
--- ---- "one lead for each room"
-abbrev pub ledByOne : House → ℕ → Bool
-ledByOne h r = has (h .rooms) r implies eqb (count (λ u. has (u .leads) r) (h .users)) 1
+-- ---- 02, L6: "Every room has at least one staff lead at all times": that leads are staff is asked above
+abbrev pub isLed : House → ℕ → Bool
+isLed h r = has (h .rooms) r implies leb 1 (leadCount h r)
 
-abbrev pub oneLead : House → Bool
-oneLead h = all (ledByOne h) roomNumbers
+abbrev pub allLed : House → Bool
+allLed h = all (isLed h) roomNumbers
 
 -- ---- "outsiders with zero labels, in no room"
 abbrev pub bareIfOutsider : User → Bool
@@ -145,5 +146,5 @@ bounded h last =
 -- ---- all of them, of the records h and the last draft number issued
 unfoldable pub rules : House → ℕ → Bool
 rules h last =
-    bounded h last && namedThere h && administered h && staffOnly h && oneLead h && outsidersBare h && sessionsOwned h && sessionsWithin h && roomDrafts h
+    bounded h last && namedThere h && administered h && staffOnly h && allLed h && outsidersBare h && sessionsOwned h && sessionsWithin h && roomDrafts h
     && houseDrafts h && eachDrafted h && eachPlaced h && numbersRise h last

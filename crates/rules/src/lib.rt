@@ -8,7 +8,7 @@ ghost use Rattle.label.specs.Labels.{contains};
 ghost use Rattle.records.specs.House.{view};
 ghost use Rattle.rules.specs.Rules.{labelFits, isPlace, rules};
 use people::administered;
-use people::one_lead;
+use people::all_led;
 use people::users_keep;
 use records::Cells;
 use sessions::sessions_keep;
@@ -43,7 +43,7 @@ pub fn keeps(records: &Cells, last: u32) -> bool
     rooms_fit(records)
         & users_keep(records)
         & administered(records)
-        & one_lead(records)
+        & all_led(records)
         & sessions_keep(records)
         & scripts_keep(records)
         & drafts_keep(records, last)

@@ -1,9 +1,8 @@
 // The rules of users and of the rooms that they lead.
 ghost use mathlib.Core.Path.{_≡_};
-ghost use Rattle.records.specs.Lists.{all, count};
-ghost use Rattle.records.specs.Places.{has};
+ghost use Rattle.records.specs.Lists.{all};
 ghost use Rattle.records.specs.House.{view};
-ghost use Rattle.rules.specs.Rules.{userFits, roomsThere, staffIfTrusted, bareIfOutsider, administered, ledByOne, oneLead};
+ghost use Rattle.rules.specs.Rules.{userFits, roomsThere, staffIfTrusted, bareIfOutsider, administered, isLed, allLed};
 ghost use Rattle.rules.specs.Walks.{userKeeps};
 use crate::label_fits;
 use records::Cells;
@@ -77,31 +76,17 @@ pub(crate) fn administered(records: &Cells) -> bool
 }
 
 // ---- of each room
-fn count_leads(records: &Cells, room: u8) -> usize
-    ensures { λ r. ⌜ r ≡ count (λ u. has (u .leads) room) (view (now (records .entry)) .users) ⌝ }
+fn is_led(records: &Cells, room: u8) -> bool
+    ensures { λ r. ⌜ r ≡ isLed (view (now (records .entry))) room ⌝ }
 {
-    let mut n: usize = 0;
-    'users: for i in 0..64 {
-        let user = records::user_at(records, i);
-        if !records::has(user.leads, room) {
-            continue 'users;
-        }
-        n += 1;
-    }
-    n
+    !records::has(records::rooms(records), room) | (1 <= leads::count_leads(records, room))
 }
 
-fn led_by_one(records: &Cells, room: u8) -> bool
-    ensures { λ r. ⌜ r ≡ ledByOne (view (now (records .entry))) room ⌝ }
-{
-    !records::has(records::rooms(records), room) | (count_leads(records, room) == 1)
-}
-
-pub(crate) fn one_lead(records: &Cells) -> bool
-    ensures { λ r. ⌜ r ≡ oneLead (view (now (records .entry))) ⌝ }
+pub(crate) fn all_led(records: &Cells) -> bool
+    ensures { λ r. ⌜ r ≡ allLed (view (now (records .entry))) ⌝ }
 {
     'rooms: for room in 1..17 {
-        if !led_by_one(records, room) {
+        if !is_led(records, room) {
             return false;
         }
     }

@@ -1,4 +1,4 @@
-// Builds seven houses by changes and prints each one's tables after each step, to be compared with what documents 01 and 02 say.
+// Builds eight houses by changes and prints each one's tables after each step, to be compared with what documents 01 and 02 say.
 // A step's line: its scene and number in the scene (307 is the seventh of the third), the kind, the request's bytes, the draft number received.
 // Then the rooms that exist, a line for each user, script and session that is there, the drafts in the order of their table, how many live.
 // Drafts that follow one another by one, with the same script and the same places, share a line. Categories and sets are hexadecimal.
@@ -180,6 +180,27 @@ fn coming_back(records: &mut Cells) {
     step(records, 722, 0x05, 0x00_01_01_00_0000, 0); // and joins it again: nothing ends
 }
 
+// Leads are made and ended: nobody joins or leaves a room by that, and no session ends.
+fn leading(records: &mut Cells) {
+    records::clear(records);
+    step(records, 801, 0x01, 0x00_00_00_07_FFFF_01, 0); // user 0, staff
+    step(records, 802, 0x01, 0x00_01_00_05_0003_00, 0); // user 1, staff
+    step(records, 803, 0x01, 0x00_3F_00_05_0003_00, 0); // user 63, staff
+    step(records, 804, 0x02, 0x00_01, 0); // user 0 leads room 1
+    step(records, 805, 0x02, 0x00_10, 0); // and room 16
+    step(records, 806, 0x0C, 0x00_3F_10, 0); // user 63 leads room 16 too, and is not in it
+    step(records, 807, 0x0C, 0x3F_01_10, 0); // a third lead, made by the second
+    step(records, 808, 0x0C, 0x00_01_01, 0); // user 1 leads room 1 too
+    step(records, 809, 0x03, 0x00_3F_10, 0); // user 63 joins room 16
+    step(records, 810, 0x10, 0x3F_00_10_05_0003, 0); // and has an RW session there
+    step(records, 811, 0x0D, 0x01_3F_10, 0); // user 63 leads no longer: still in the room, and the session stays
+    step(records, 812, 0x0D, 0x01_00_10, 0); // nor does user 0, who established it; room 1 is led as before
+    step(records, 813, 0x0D, 0x01_01_01, 0); // the own lead of room 1: that of room 16 stays
+    step(records, 814, 0x0D, 0x00_01_01, 0); // who does not lead, which no desk grants: nothing changes
+    step(records, 815, 0x0C, 0x01_3F_10, 0); // user 63 leads room 16 again
+    step(records, 816, 0x0B, 0x3F_10, 0); // room 16 goes, and both leads with it
+}
+
 fn main() {
     let mut records = [0u32; 1858];
     people(&mut records);
@@ -189,4 +210,5 @@ fn main() {
     last_numbers(&mut records);
     full(&mut records);
     coming_back(&mut records);
+    leading(&mut records);
 }

@@ -19,6 +19,8 @@ fn administrative(kind: u8) {
         0x09 => lines::say(b" Import "),
         0x0A => lines::say(b" Merge "),
         0x0B => lines::say(b" Disband "),
+        0x0C => lines::say(b" Make lead "),
+        0x0D => lines::say(b" End lead "),
         _ => {}
     }
 }

@@ -3,14 +3,14 @@ use Prim.Native.Nat.{ℕ}
 use mathlib.Core.Path.{_≡_, refl, sym, ap, _∙_}
 use mathlib.Core.Bool.{Bool, true, false, not}
 use mathlib.Core.List.{List, [], _∷_, _++_}
-use borrow.Author.Tests.{eqb-true, not-false}
+use borrow.Author.Tests.{eqb-true, leb-true, le-leb, not-false}
+use native.Mathlib.Omega.{arith}
 use lib.Dec.{eqb}
 use lib.ListN.{length}
 use Rattle.request.specs.Reading.{frameOf}
 use Rattle.request.specs.Writing.{written}
 use Rattle.request.specs.declared.Frame.the-variants.{Whole, Unknown, Cut}
 use Rattle.request.specs.declared.Request.{Request}
-use Rattle.request.specs.declared.Request.the-variants.{Enrol, Establish, JoinStaff, LeaveStaff, JoinOutsider, LeaveOutsider, Add, Remove, Import, Merge, Disband, OpenInRoom, OpenInHouse, OpenReadOnly, Read, Update, Create, Kill, TakeBack}
 use Rattle.request.proofs.RoundTrip.{written-is-read}
 use Rattle.request.proofs.Ways.{empty}
 use Rattle.records.specs.House.{House}
@@ -19,16 +19,16 @@ use Rattle.effects.specs.declared.Change.{Change}
 use Rattle.counter.specs.Numbers.{top, nextAfter}
 use Rattle.reasons.specs.Reasons.{bare, reason}
 use Rattle.reasons.specs.Asking.{Line, _unless_, _because_, asked, both, told, FirstFailing, here, later, numbers}
-use Rattle.reasons.specs.Order.{ascendFrom}
-use Rattle.reasons.specs.Shared.{pairNumbers, pairLed, draftLed, opens, covers, asScript, imports, draftAsked}
+use Rattle.reasons.specs.Order.{rank, ascendFrom}
 use Rattle.reasons.specs.declared.Reason.{Reason}
 use Rattle.reasons.specs.declared.Asked.{Asked}
 use Rattle.reasons.specs.declared.Asked.the-variants.{Holds, Fails}
 use Rattle.reasons.proofs.Asking.{more}
-use Rattle.reasons.proofs.Order.{first-fails, Verdict, grant, refusal, verdict, lowest, zeros-if-all, all-if-zero}
+use Rattle.reasons.proofs.Order.{first-fails, Verdict, grant, refusal, verdict, ascends, ascend-behind, numbers-more, lowest, zeros-if-all, all-if-zero}
 use Rattle.judge.specs.declared.Ruling.{Ruling}
 use Rattle.judge.specs.declared.Ruling.the-variants.{Refused, Pass, Keep, KeepNumbered}
-use Rattle.judge.specs.Kinds.{enrolWhere, establishLines, importLines, disbandLines, createLines, killLines, takeBackLines, linesOf, grantOf, grantIf, rulingOf}
+use Rattle.judge.specs.Kinds.{linesOf, grantOf, grantIf, rulingOf}
+use Rattle.judge.proofs.Rows.{fine}
 use Rattle.judge.proofs.Order.{grant-is-none}
 use Rattle.judge.proofs.Sound.{first-told}
 use Rattle.history.specs.Machine as machine
@@ -39,26 +39,20 @@ use Rattle.why.specs.Explained.{refusalOf, askedBy, TrueOf, of-records, 
 
 -- ---- the numbers of all that is asked ascend in the order of refusals
 lines-ascend : (rule : Rule) (h : House) (last kept : ℕ) (q : Request) → ascendFrom 0 (numbers (deskLines rule h last kept q)) ≡ true
-unfolding enrolWhere establishLines pairNumbers pairLed draftLed importLines disbandLines opens covers asScript imports draftAsked createLines killLines takeBackLines
-lines-ascend rule h last kept (Enrol u new sort level c admin) = refl
-lines-ascend rule h last kept (Establish u room) = refl
-lines-ascend rule h last kept (JoinStaff u w room) = refl
-lines-ascend rule h last kept (LeaveStaff u w room) = refl
-lines-ascend rule h last kept (JoinOutsider u w room level c) = refl
-lines-ascend rule h last kept (LeaveOutsider u w room) = refl
-lines-ascend rule h last kept (Add u k v room) = refl
-lines-ascend rule h last kept (Remove u k v room) = refl
-lines-ascend rule h last kept (Import u k₁ v k₂ room) = refl
-lines-ascend rule h last kept (Merge u k v room) = refl
-lines-ascend rule h last kept (Disband u room) = refl
-lines-ascend rule h last kept (OpenInRoom u s room level c) = refl
-lines-ascend rule h last kept (OpenInHouse u s level c) = refl
-lines-ascend rule h last kept (OpenReadOnly u s level c) = refl
-lines-ascend rule h last kept (Read s k v) = refl
-lines-ascend rule h last kept (Update s k v) = refl
-lines-ascend rule h last kept (Create s k) = refl
-lines-ascend rule h last kept (Kill u s) = refl
-lines-ascend rule h last kept (TakeBack u) = refl
+lines-ascend rule h last kept q = rw (numbers-more (linesOf rule h q) (afterLines (grantOf q) last kept)) (go (grantOf q))
+  where
+    ls : List Line
+    ls = linesOf rule h q
+
+    with-end : (ks : List ℕ) → ((j : ℕ) → ascendFrom j (11 ∷ 12 ∷ []) ≡ true → ascendFrom j ks ≡ true) → ascendFrom 0 (numbers ls ++ ks) ≡ true
+    with-end ks f = ascend-behind (11 ∷ 12 ∷ []) ks f 0 (numbers ls) (fine q rule h .0)
+
+    go : (g : Ruling) → ascendFrom 0 (numbers ls ++ numbers (afterLines g last kept)) ≡ true
+    go (Refused r) = with-end [] (λ j a. refl)
+    go Pass = with-end [] (λ j a. refl)
+    go Keep = with-end [] (λ j a. refl)
+    go KeepNumbered = with-end (11 ∷ []) (λ j a. rw (ascends j 11 (12 ∷ []) a .1))
+    go Ruling.TakeBack = with-end (12 ∷ []) (λ j a. rw (le-leb j (rank 12) (omega (arith, leb-true j (rank 11) (ascends j 11 (12 ∷ []) a .1)))))
 
 -- ---- the number is the one that the desk answers with
 module _ (rule : Rule) (d : Desk House Change) (q : Request) where

@@ -50,21 +50,23 @@ const fn import(rule: Rule, n: u8, clause: &'static str) -> Condition {
     Condition { n, clause, record: 0x43, wanted: Open, kinds: &[9], rule: Some(rule) }
 }
 
-const USERS: &[u8] = &[1, 2, 3, 4, 5, 6, 7, 8, 9, 0x0A, 0x0B, 0x10, 0x11, 0x12, 0x16, 0x20];
-const PAIRS: &[u8] = &[3, 4, 5, 6];
-const ROOMS: &[u8] = &[3, 4, 5, 6, 7, 8, 9, 0x0A, 0x0B, 0x10];
+const USERS: &[u8] = &[1, 2, 3, 4, 5, 6, 7, 8, 9, 0x0A, 0x0B, 0x0C, 0x0D, 0x10, 0x11, 0x12, 0x16, 0x20];
+const PAIRS: &[u8] = &[3, 4, 5, 6, 0x0C, 0x0D];
+const ROOMS: &[u8] = &[3, 4, 5, 6, 7, 8, 9, 0x0A, 0x0B, 0x0C, 0x0D, 0x10];
+/// Establish too, whose room is not there yet.
+const ROOM_NUMBERS: &[u8] = &[2, 3, 4, 5, 6, 7, 8, 9, 0x0A, 0x0B, 0x0C, 0x0D, 0x10];
 const DRAFTS: &[u8] = &[7, 8, 9, 0x0A, 0x13, 0x14];
 const ISSUING: &[u8] = &[9, 0x14, 0x15];
 
-pub const CONDITIONS: [Condition; 64] = [
+pub const CONDITIONS: [Condition; 67] = [
     of(3, "u over 63", 0, Is(63), USERS),
     of(3, "new over 63", 0, Is(63), &[1]),
     of(3, "w over 63", 0, Is(63), PAIRS),
     of(3, "script over 63", 0, Is(63), &[7, 8, 9, 0x0A, 0x13, 0x14, 0x15]),
     of(3, "script2 over 63", 0, Is(63), &[9]),
     of(3, "session over 63", 0, Is(63), &[0x10, 0x11, 0x12, 0x13, 0x14, 0x15, 0x16]),
-    of(3, "room over 16", 0, Is(16), &[2, 3, 4, 5, 6, 7, 8, 9, 0x0A, 0x0B, 0x10]),
-    of(3, "room 0", 0, Is(1), &[2, 3, 4, 5, 6, 7, 8, 9, 0x0A, 0x0B, 0x10]),
+    of(3, "room over 16", 0, Is(16), ROOM_NUMBERS),
+    of(3, "room 0", 0, Is(1), ROOM_NUMBERS),
     of(3, "level over 7", 0, Is(7), &[1, 5, 0x10, 0x11, 0x12]),
     of(3, "sort not 0 or 2", 0, Is(0), &[1]),
     of(3, "admin not 0 or 1", 0, Is(1), &[1]),
@@ -87,11 +89,11 @@ pub const CONDITIONS: [Condition; 64] = [
     of(6, "empty desk: not staff", 0, Is(0), &[1]),
     of(6, "empty desk: not administrator", 0, Is(1), &[1]),
     of(6, "no house administrator", 0x41, Is(1), &[1, 2, 0x20]),
-    of(6, "u doesn't lead the room", 0x41, Open, &[3, 4, 5, 6, 7, 8, 9, 0x0A, 0x0B]),
+    of(6, "u doesn't lead the room", 0x41, Open, &[3, 4, 5, 6, 7, 8, 9, 0x0A, 0x0B, 0x0C, 0x0D]),
     of(6, "neither owns; RO has no room", 0x44, Open, &[0x16]),
     of(6, "neither owns; house has no lead", 0x44, Open, &[0x16]),
     of(6, "neither owns nor leads its room", 0x44, Open, &[0x16]),
-    of(7, "w not staff", 0x41, Is(0), &[3, 4]),
+    of(7, "w not staff", 0x41, Is(0), &[3, 4, 0x0C, 0x0D]),
     of(7, "w staff", 0x41, Is(2), &[5]),
     of(7, "w no freelancer", 0x41, Is(1), &[6]),
     of(7, "u not staff", 0x41, Is(0), &[0x11]),
@@ -108,6 +110,9 @@ pub const CONDITIONS: [Condition; 64] = [
     of(8, "RO: no place shared", 0x45, Open, &[0x13]),
     of(8, "RO of staff: no place shared", 0x45, Open, &[0x13]),
     of(8, "session's place not among them", 0x45, Open, &[0x13, 0x14]),
+    of(8, "already leads", 0x41, Open, &[0x0C]),
+    of(8, "w doesn't lead the room", 0x41, Open, &[0x0D]),
+    of(8, "the only lead", 0x42, Is(2), &[0x0D]),
     of(9, "level not covered", 0x41, Open, &[0x10, 0x11, 0x12]),
     of(9, "level not covered", 0x44, Open, &[0x13]),
     of(9, "levels differ", 0x44, Open, &[0x14]),

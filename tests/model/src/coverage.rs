@@ -1,11 +1,12 @@
 // What a set of runs reached: pairs of kind and answer, conditions with their reasons, refusals that apply together, the two labels at Import, what a Join
-// outsider ends, and events worth a name.
+// outsider ends, what becomes of leads, and events worth a name.
 
 use crate::batch::bytes;
 use crate::conditions::{Condition, CONDITIONS};
 use crate::desk::*;
 use crate::generate::generate;
 use crate::imports::{self, standing, Standing, STANDINGS};
+use crate::leads;
 use crate::reasons::Failed;
 use crate::request::{frame, Frame, Request, KINDS};
 use crate::returns::{self, Standing as Stands};
@@ -15,7 +16,7 @@ use std::collections::{BTreeMap, BTreeSet};
 fn allowed(kind: u8) -> Vec<u8> {
     let refusals: &[u8] = match kind {
         0x01 | 0x02 => &[3, 4, 5, 6],
-        0x03..=0x06 => &[3, 4, 6, 7, 8],
+        0x03..=0x06 | 0x0C | 0x0D => &[3, 4, 6, 7, 8],
         0x07 | 0x08 | 0x0A => &[3, 4, 6, 8],
         0x09 => &[3, 4, 6, 8, 9, 16, 10, 11],
         0x0B | 0x16 => &[3, 4, 6],
@@ -32,9 +33,12 @@ fn allowed(kind: u8) -> Vec<u8> {
     std::iter::once(granted).chain(refusals.iter().map(|n| 0xC0 + n)).collect()
 }
 
-/// Refusals from 9 on that can apply to one request of the kind, all that do; the first is given.
+/// Refusals from 9 on that can apply to one request of the kind, at 0C and 0D from 6 on, all that do; the first is given.
 fn together(kind: u8) -> &'static [&'static [u8]] {
     match kind {
+        // Who is not staff leads nothing: 7 and 8 never come together at 0C, and always at 0D.
+        0x0C => &[&[6], &[6, 7], &[6, 8], &[7], &[8]],
+        0x0D => &[&[6], &[6, 7, 8], &[6, 8], &[7, 8], &[8]],
         0x10..=0x13 => &[&[9], &[9, 16], &[16]],
         0x09 | 0x14 => &[
             &[9], &[9, 16], &[16],
@@ -77,6 +81,26 @@ const JOINS: [&str; 8] = [
     "a Join outsider that ended a session is taken back",
 ];
 
+/// What becomes of leads, and what those do who were made one.
+const LEADS: [&str; 16] = [
+    "0C gives a room its second lead",
+    "0C gives a room its third lead",
+    "0C makes one a lead who is not in the room",
+    "0C makes one a lead again",
+    "0D ends another's lead",
+    "0D ends the own lead",
+    "0D ends the lead of who established the room",
+    "0D ends the lead of one with an RW session in the room, which stays",
+    "0D leaves a room one lead",
+    "0C is taken back",
+    "0D is taken back",
+    "Disband by one who was made a lead",
+    "Disband of a room with more than one lead",
+    "a Disband of a room with more than one lead is taken back",
+    "one who was made a lead kills another's session",
+    "who led the room before is refused with 6",
+];
+
 #[derive(Default)]
 pub struct Coverage {
     pairs: BTreeMap<(u8, u8), usize>,
@@ -86,7 +110,8 @@ pub struct Coverage {
     together: BTreeMap<(u8, Vec<u8>), usize>,
     /// By the rule, how the labels stand at an Import that no refusal before 9 applies to, and whether 256 drafts live.
     imports: BTreeMap<(Rule, Standing, bool), usize>,
-    /// Reasons that are in no row of the table, answers to an Import that are not the documents', and sessions that a Join outsider ends or leaves against them.
+    /// Reasons that are in no row of the table, answers to an Import that are not the documents', sessions that a Join outsider ends or leaves against them,
+    /// and what else than a lead is moved by 0C or 0D.
     strays: BTreeSet<String>,
     events: BTreeMap<&'static str, usize>,
     taken_back: BTreeMap<u8, usize>,
@@ -96,7 +121,7 @@ pub struct Coverage {
 
 impl Coverage {
     fn event(&mut self, name: &'static str) {
-        debug_assert!(EVENTS.contains(&name) || JOINS.contains(&name));
+        debug_assert!(EVENTS.contains(&name) || JOINS.contains(&name) || LEADS.contains(&name));
         *self.events.entry(name).or_default() += 1;
     }
 
@@ -153,6 +178,87 @@ impl Coverage {
             (true, true) => self.event("a freelancer out of every room joins again"),
             (true, false) => self.event("a freelancer joins a second room"),
             _ => {}
+        }
+    }
+
+    /// A granted request about leads, or by one; the desk is as it was left.
+    fn led(&mut self, before: &House, desk: &Desk, request: &Request, undone: Option<Request>) {
+        let (after, founder) = (&desk.house, |room: u8| leads::founder(&desk.changes, room));
+        match *request {
+            Request::MakeLead { w, room, .. } | Request::EndLead { w, room, .. } if !leads::only_lead_moved(before, after, w, room) => {
+                self.strays.insert(format!("{request:?} moved something else"));
+            }
+            Request::MakeLead { w, room, .. } => {
+                match after.leads_of(room).len() {
+                    2 => self.event("0C gives a room its second lead"),
+                    3 => self.event("0C gives a room its third lead"),
+                    _ => {}
+                }
+                if !before.users[&w].joined.contains(room) {
+                    self.event("0C makes one a lead who is not in the room");
+                }
+                // The last change is this one.
+                if desk.changes.split_last().is_some_and(|(_, earlier)| leads::led_before(earlier, w, room)) {
+                    self.event("0C makes one a lead again");
+                }
+            }
+            Request::EndLead { u, w, room } => {
+                self.event(if u == w { "0D ends the own lead" } else { "0D ends another's lead" });
+                if founder(room) == Some(w) {
+                    self.event("0D ends the lead of who established the room");
+                }
+                if after.sessions.values().any(|s| s.owner == w && s.place == Some(room)) {
+                    self.event("0D ends the lead of one with an RW session in the room, which stays");
+                }
+                if after.leads_of(room).len() == 1 {
+                    self.event("0D leaves a room one lead");
+                }
+            }
+            Request::Disband { u, room } => {
+                if founder(room) != Some(u) {
+                    self.event("Disband by one who was made a lead");
+                }
+                if before.leads_of(room).len() > 1 {
+                    self.event("Disband of a room with more than one lead");
+                }
+            }
+            Request::Kill { u, s } => {
+                let Session { owner, place, .. } = before.sessions[&s];
+                if owner != u && place.and_then(founder) != Some(u) {
+                    self.event("one who was made a lead kills another's session");
+                }
+            }
+            Request::TakeBack { .. } => match undone {
+                Some(Request::MakeLead { .. }) => self.event("0C is taken back"),
+                Some(Request::EndLead { .. }) => self.event("0D is taken back"),
+                Some(Request::Disband { room, .. }) if after.leads_of(room).len() > 1 => {
+                    self.event("a Disband of a room with more than one lead is taken back")
+                }
+                _ => {}
+            },
+            _ => {}
+        }
+    }
+
+    /// A refusal with 6 where who asks led the room before.
+    fn not_led(&mut self, desk: &Desk, request: &Request) {
+        let asked = match *request {
+            Request::Kill { u, s } => desk.house.sessions[&s].place.map(|place| (u, place)),
+            Request::JoinStaff { u, room, .. }
+            | Request::LeaveStaff { u, room, .. }
+            | Request::JoinOutsider { u, room, .. }
+            | Request::LeaveOutsider { u, room, .. }
+            | Request::Add { u, room, .. }
+            | Request::Remove { u, room, .. }
+            | Request::Import { u, room, .. }
+            | Request::Merge { u, room, .. }
+            | Request::Disband { u, room }
+            | Request::MakeLead { u, room, .. }
+            | Request::EndLead { u, room, .. } => Some((u, room)),
+            _ => None,
+        };
+        if asked.is_some_and(|(u, room)| leads::led_before(&desk.changes, u, room)) {
+            self.event("who led the room before is refused with 6");
         }
     }
 
@@ -254,7 +360,12 @@ impl Coverage {
             }
             if let Answer::Refused(n, failed) = answer {
                 self.refused(rule, request.kind(), n, &failed);
-                if !(3..=8).contains(&n) {
+                if n == 6 {
+                    self.not_led(&desk, &request);
+                }
+                // Once 3 and 4 do not apply, 0C and 0D can be asked all that is left.
+                let about_leads = matches!(request, Request::MakeLead { .. } | Request::EndLead { .. });
+                if !(3..=8).contains(&n) || about_leads && n >= 6 {
                     let refusals = desk.refusals(&request).map(|(n, _)| n).collect();
                     *self.together.entry((request.kind(), refusals)).or_default() += 1;
                 }
@@ -265,6 +376,7 @@ impl Coverage {
             }
             in_a_row = if matches!(request, Request::TakeBack { .. }) { in_a_row + 1 } else { 0 };
             self.observe(&before, &desk.house, &request, undone);
+            self.led(&before, &desk, &request, undone);
             match request {
                 Request::Disband { room, .. } => {
                     disbanded.insert(room);
@@ -354,7 +466,7 @@ pub fn report(seeds: &[u64], count: usize) -> bool {
     complete
 }
 
-/// How often, at least, an Import gets each of its answers, and a Join outsider ends or leaves sessions: once for so many runs.
+/// How often, at least, an Import, a 0C and a 0D get each of their answers, a Join outsider ends or leaves sessions, and leads are moved: once for so many runs.
 const RUNS_FOR_ONE: usize = 4;
 
 /// What runs under one rule reach, and what is missing.
@@ -377,7 +489,7 @@ fn reached(seeds: &[u64], count: usize, rule: Rule) -> (Coverage, Vec<String>) {
             let from = if byte == 0xCB { &near } else { &all };
             let times = from.pairs.get(&(kind, byte)).copied().unwrap_or(0);
             line += &format!(" {byte:02X}:{times}");
-            let common = kind == 0x09 && matches!(byte, 0x81 | 0xC9 | 0xD0 | 0xCA);
+            let common = kind == 0x09 && matches!(byte, 0x81 | 0xC9 | 0xD0 | 0xCA) || matches!(kind, 0x0C | 0x0D);
             let least = if common { often } else { 1 };
             if times < least {
                 missing.push(format!("{kind:02X} {byte:02X}, {least} times"));
@@ -404,6 +516,7 @@ fn reached(seeds: &[u64], count: usize, rule: Rule) -> (Coverage, Vec<String>) {
     missing.extend(all.never_imported(&[rule], false));
     missing.extend(all.seldom(&EVENTS, 1));
     missing.extend(all.seldom(&JOINS, often));
+    missing.extend(all.seldom(&LEADS, often));
     for kind in KINDS.iter().filter(|k| !matches!(k, 0x13 | 0x20)) {
         if !all.taken_back.contains_key(kind) {
             missing.push(format!("{kind:02X} taken back"));
@@ -422,7 +535,7 @@ fn rule_of(file: &str) -> Rule {
 }
 
 /// Whether stored runs, each a file's name and its text of commented hex, meet every condition that a desk opened with 0 can, at Import all that the
-/// labels can be under either rule, and all that a Join outsider does to sessions.
+/// labels can be under either rule, all that a Join outsider does to sessions, and all that becomes of leads.
 pub fn stored(files: &[(String, String)]) -> Result<bool, String> {
     let mut all = Coverage::default();
     for (name, text) in files {
@@ -432,6 +545,7 @@ pub fn stored(files: &[(String, String)]) -> Result<bool, String> {
     let mut missing = all.unmet(&Rule::BOTH, |n| n != 11);
     missing.extend(all.never_imported(&Rule::BOTH, true));
     missing.extend(all.seldom(&JOINS, 1));
+    missing.extend(all.seldom(&LEADS, 1));
     let second = files.iter().filter(|(name, _)| rule_of(name) == Rule::Two).count();
     println!("{} runs, {second} of them under rule 2, {} requests, {} conditions", files.len(), all.requests, all.conditions.len());
     Ok(complete(&missing))

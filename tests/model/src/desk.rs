@@ -179,6 +179,11 @@ impl House {
         self.user(u).led.contains(room)
     }
 
+    /// Who leads the room, lowest first.
+    pub fn leads_of(&self, room: u8) -> Vec<u8> {
+        self.users.iter().filter(|(_, user)| user.led.contains(room)).map(|(u, _)| *u).collect()
+    }
+
     pub fn places(&self, v: u32) -> Places {
         self.drafts[&v].places
     }
@@ -257,6 +262,10 @@ impl House {
                 }
                 self.clear_empty();
             }
+            MakeLead { w, room, .. } => {
+                self.users.get_mut(&w).unwrap().led.insert(room);
+            }
+            EndLead { w, room, .. } => self.users.get_mut(&w).unwrap().led.remove(room),
             OpenRoom { u, s, room, level, c } => self.open(u, s, Some(room), level, c),
             OpenHouse { u, s, level, c } => self.open(u, s, Some(HOUSE), level, c),
             OpenRo { u, s, level, c } => self.open(u, s, None, level, c),

@@ -2,6 +2,7 @@
 
 use crate::desk::*;
 use crate::imports::{standing, Standing, STANDINGS};
+use crate::leads;
 use crate::request::Request::{self, *};
 use crate::request::{body_length, frame, Frame, KINDS};
 
@@ -35,15 +36,15 @@ impl Chance {
 }
 
 /// Weights of the kinds, in the order of KINDS.
-type Weights = [usize; 19];
+type Weights = [usize; 21];
 
-//                     01 02 03 04 05 06 07 08 09 0A 0B 10 11 12 13 14 15 16 20
-const SETUP: Weights = [9, 5, 6, 0, 4, 0, 2, 0, 1, 1, 0, 8, 8, 3, 2, 4, 8, 0, 0];
-const MIXED: Weights = [3, 2, 4, 3, 4, 3, 6, 4, 4, 4, 1, 6, 4, 4, 9, 9, 6, 4, 3];
-const PEOPLE: Weights = [4, 2, 9, 8, 9, 9, 3, 1, 1, 1, 1, 7, 3, 4, 6, 4, 3, 3, 2];
-const ROOMS: Weights = [2, 8, 5, 1, 4, 1, 6, 2, 3, 3, 6, 6, 3, 3, 4, 5, 6, 2, 3];
-const TAKING: Weights = [3, 2, 4, 3, 4, 3, 4, 3, 3, 3, 2, 5, 4, 4, 3, 5, 5, 4, 16];
-const DRAFTS: Weights = [1, 0, 2, 0, 1, 0, 5, 1, 9, 3, 0, 3, 3, 2, 3, 60, 9, 1, 1];
+//                     01 02 03 04 05 06 07 08 09 0A 0B 0C 0D 10 11 12 13 14 15 16 20
+const SETUP: Weights = [9, 5, 6, 0, 4, 0, 2, 0, 1, 1, 0, 3, 1, 8, 8, 3, 2, 4, 8, 0, 0];
+const MIXED: Weights = [3, 2, 4, 3, 4, 3, 6, 4, 4, 4, 1, 3, 2, 6, 4, 4, 9, 9, 6, 4, 3];
+const PEOPLE: Weights = [4, 2, 9, 8, 9, 9, 3, 1, 1, 1, 1, 6, 5, 7, 3, 4, 6, 4, 3, 3, 2];
+const ROOMS: Weights = [2, 8, 5, 1, 4, 1, 6, 2, 3, 3, 6, 5, 3, 6, 3, 3, 4, 5, 6, 2, 3];
+const TAKING: Weights = [3, 2, 4, 3, 4, 3, 4, 3, 3, 3, 2, 4, 3, 5, 4, 4, 3, 5, 5, 4, 16];
+const DRAFTS: Weights = [1, 0, 2, 0, 1, 0, 5, 1, 9, 3, 0, 2, 2, 3, 3, 2, 3, 60, 9, 1, 1];
 const STYLES: [Weights; 5] = [MIXED, PEOPLE, ROOMS, TAKING, DRAFTS];
 /// Of runs with many Imports, more of which shall meet a full desk.
 const IMPORTING: [Weights; 5] = [MIXED, DRAFTS, ROOMS, TAKING, DRAFTS];
@@ -211,11 +212,19 @@ impl Player {
         self.chance.one_of(&from)
     }
 
-    /// A room and its lead.
+    /// A room and one of its leads.
     fn led_room(&mut self) -> Option<(u8, u8)> {
         let rooms: Vec<u8> = self.desk.house.rooms.iter().collect();
         let room = self.chance.one_of(&rooms)?;
-        Some((room, self.users(|u| u.led.contains(room))[0]))
+        Some((room, self.user(|u| u.led.contains(room))?))
+    }
+
+    /// The same of a room with a number of leads that fits.
+    fn room_led_by(&mut self, fits: impl Fn(usize) -> bool) -> Option<(u8, u8)> {
+        let house = &self.desk.house;
+        let rooms: Vec<u8> = house.rooms.iter().filter(|room| fits(house.leads_of(*room).len())).collect();
+        let room = self.chance.one_of(&rooms)?;
+        Some((room, self.user(|u| u.led.contains(room))?))
     }
 
     fn session(&mut self, fits: impl Fn(&Session) -> bool) -> Option<u8> {
@@ -324,6 +333,18 @@ impl Player {
             0x0B => {
                 let (room, u) = self.led_room()?;
                 Disband { u, room }
+            }
+            0x0C => {
+                // Few rooms have many leads, so that those with one, two and three are met often.
+                let many = self.chance.percent(20);
+                let (room, u) = self.room_led_by(|leads| leads < 4 || many)?;
+                let w = self.user(|w| w.sort == STAFF && !w.led.contains(room))?;
+                MakeLead { u, w, room }
+            }
+            0x0D => {
+                let (room, u) = self.room_led_by(|leads| leads > 1)?;
+                let w = self.user(|w| w.led.contains(room))?;
+                EndLead { u, w, room }
             }
             0x10 => {
                 let u = self.user(|u| !u.joined.is_empty())?;
@@ -483,6 +504,11 @@ impl Player {
                 return request;
             }
         }
+        if self.chance.percent(8) {
+            if let Some(request) = self.wrong_lead() {
+                return request;
+            }
+        }
         let kind = self.chance.one_of(&KINDS).unwrap();
         let Some(request) = self.propose(kind) else { return self.any(kind) };
         match self.chance.below(100) {
@@ -551,6 +577,55 @@ impl Player {
         })
     }
 
+    /// A 0C or 0D in order but for u or w; or what one asks who leads no more.
+    fn wrong_lead(&mut self) -> Option<Request> {
+        let (room, u) = self.led_room()?;
+        Some(match self.chance.below(10) {
+            0 => MakeLead { u, w: self.user(|w| w.led.contains(room))?, room },
+            1 => MakeLead { u, w: self.user(|w| w.sort != STAFF)?, room },
+            2 => EndLead { u, w: self.user(|w| w.sort != STAFF)?, room },
+            3 => EndLead { u, w: self.user(|w| w.sort == STAFF && !w.led.contains(room))?, room },
+            4 => {
+                let (room, u) = self.room_led_by(|leads| leads == 1)?;
+                EndLead { u, w: u, room }
+            }
+            5 => {
+                // By one who does not lead, of the only lead: 6 comes first.
+                let (room, w) = self.room_led_by(|leads| leads == 1)?;
+                EndLead { u: self.user(|u| !u.led.contains(room))?, w, room }
+            }
+            6 => {
+                let leads = self.chance.percent(40);
+                let (u, w) = (self.user(|u| !u.led.contains(room))?, self.user(|w| !leads || w.led.contains(room))?);
+                if self.chance.percent(50) { MakeLead { u, w, room } } else { EndLead { u, w, room } }
+            }
+            _ => return self.led_before(),
+        })
+    }
+
+    /// A request by one who led the room before.
+    fn led_before(&mut self) -> Option<Request> {
+        let (changes, house) = (&self.desk.changes, &self.desk.house);
+        // Of late alone: a long run has many.
+        let ended = changes.iter().rev().take(150).filter_map(|change| match change.request {
+            EndLead { w, room, .. } => Some((w, room)),
+            _ => None,
+        });
+        let there = |(u, room): &(u8, u8)| house.users.contains_key(u) && house.rooms.contains(*room);
+        let from: Vec<(u8, u8)> = ended.filter(there).filter(|(u, room)| leads::led_before(changes, *u, *room)).collect();
+        let (u, room) = self.chance.one_of(&from)?;
+        let w = self.user(|w| w.sort == STAFF)?;
+        Some(match self.chance.below(6) {
+            0 => JoinStaff { u, w, room },
+            1 => Disband { u, room },
+            2 => Kill { u, s: self.session(|s| s.place == Some(room) && s.owner != u)? },
+            3 => MakeLead { u, w: u, room },
+            4 => EndLead { u, w: self.user(|w| w.led.contains(room))?, room },
+            // And made a lead again, which is in order.
+            _ => MakeLead { u: self.user(|u| u.led.contains(room))?, w: u, room },
+        })
+    }
+
     /// On a desk without users: an Enrol that is not the first administrator's own.
     fn wrong_first(&mut self) -> Request {
         let (level, c) = self.label();
@@ -589,7 +664,9 @@ impl Player {
             JoinStaff { u, w, room }
             | LeaveStaff { u, w, room }
             | JoinOutsider { u, w, room, .. }
-            | LeaveOutsider { u, w, room } => match field {
+            | LeaveOutsider { u, w, room }
+            | MakeLead { u, w, room }
+            | EndLead { u, w, room } => match field {
                 0 => *u = new_user,
                 1 => *w = new_user,
                 _ => *room = new_room,

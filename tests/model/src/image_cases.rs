@@ -180,6 +180,14 @@ fn rules_of_import() -> Vec<Case> {
             Without("user 3"),
             After("user 1", "41 03 02 00 0000 00000000 00000000 00", "user 3 before user 2"),
         ]),
+        ("rule-2-and-room-with-two-leads", ACCEPTED, vec![
+            rule(),
+            Set("user 1", "41 01 00 03 0001 00000002 00000002 00", "user 1: staff, leads room 1 too"),
+        ]),
+        ("rule-2-and-freelancer-second-lead", STAFF, vec![
+            rule(),
+            Set("user 2", "41 02 01 02 0001 00000002 00000002 00", "leads room 1 too"),
+        ]),
         ("rule-2-and-room-without-lead", LEAD, vec![
             rule(),
             Set("user 0", "41 00 00 05 0003 00000000 00000004 01", "leads room 2; nobody leads room 1"),
@@ -310,6 +318,9 @@ fn records_named() -> Vec<Case> {
     vec![
         ("room-joined-is-not-there", "15: rooms joined are there", vec![Set("user 1", "41 01 00 03 0001 0000000A 00000000 00", "in room 3 too")]),
         ("room-led-is-not-there", "15: rooms led are there", vec![Set("user 0", "41 00 00 05 0003 00000000 0000000E 01", "leads room 3 too")]),
+        ("room-led-by-another-is-not-there", "15: rooms led are there", vec![
+            Set("user 1", "41 01 00 03 0001 00000002 0000000A 00", "leads rooms 1 and 3; there is no room 3"),
+        ]),
         ("origin-is-not-there", "15: origins are there; places of drafts are there", vec![
             Set("script 1", "43 01 02 0001 03", "of room 3"),
             Set("draft 4", "45 00000004 01 00000008", "draft 4 of script 1: in room 3"),
@@ -369,7 +380,31 @@ fn rules_of_people() -> Vec<Case> {
         ]),
         ("room-without-lead", LEAD, vec![Set("user 0", "41 00 00 05 0003 00000000 00000004 01", "leads room 2; nobody leads room 1")]),
         ("room-16-without-lead", LEAD, vec![After("room 2", "42 10", "room 16, which nobody leads")]),
-        ("room-with-two-leads", LEAD, vec![Set("user 1", "41 01 00 03 0001 00000002 00000002 00", leads)]),
+        ("two-leads-and-a-room-without-lead", LEAD, vec![
+            Set("user 0", "41 00 00 05 0003 00000000 00000002 01", "leads room 1; nobody leads room 2"),
+            Set("user 1", "41 01 00 03 0001 00000002 00000002 00", leads),
+        ]),
+        ("room-with-two-leads", ACCEPTED, vec![Set("user 1", "41 01 00 03 0001 00000002 00000002 00", "user 1: staff, leads room 1 too; refused before L6")]),
+        ("room-with-two-leads-one-outside", ACCEPTED, vec![Set("user 1", "41 01 00 03 0001 00000002 00000004 00", "leads room 2 too, and is not in it")]),
+        ("rooms-with-two-leads", ACCEPTED, vec![Set("user 1", "41 01 00 03 0001 00000002 00000006 00", "leads rooms 1 and 2 too")]),
+        ("room-with-three-leads", ACCEPTED, vec![
+            Set("user 1", "41 01 00 03 0001 00000002 00000002 00", leads),
+            After("user 3", "41 04 00 00 0000 00000000 00000002 00", "user 4: staff, leads room 1"),
+        ]),
+        ("freelancer-second-lead", STAFF, vec![Set("user 2", "41 02 01 02 0001 00000002 00000002 00", "leads room 1 too")]),
+        ("outsider-second-lead", STAFF, vec![Set("user 3", "41 03 02 00 0000 00000000 00000002 00", "leads room 1 too")]),
+        ("freelancer-third-lead", STAFF, vec![
+            Set("user 1", "41 01 00 03 0001 00000002 00000002 00", leads),
+            Set("user 2", "41 02 01 02 0001 00000002 00000002 00", "leads room 1 too"),
+        ]),
+        ("only-lead-taken-out", LEAD, vec![
+            Without("user 0"),
+            Set("user 1", "41 01 00 03 0001 00000002 00000002 01", "leads room 1, administrator; nobody leads room 2 any more"),
+        ]),
+        ("one-of-two-leads-taken-out", ACCEPTED, vec![
+            Without("user 0"),
+            Set("user 1", "41 01 00 03 0001 00000002 00000006 01", "leads rooms 1 and 2, administrator"),
+        ]),
         ("outsider-with-a-level", OUTSIDERS, vec![Set("user 3", "41 03 02 01 0000 00000000 00000000 00", "level 1")]),
         ("outsider-with-a-category", OUTSIDERS, vec![Set("user 3", "41 03 02 00 8000 00000000 00000000 00", "one category")]),
         ("outsider-in-a-room", OUTSIDERS, vec![Set("user 3", "41 03 02 00 0000 00000002 00000000 00", "in room 1")]),

@@ -101,7 +101,7 @@ pub fn stored(program: &Program, files: &[String]) -> Result<(), String> {
 /// How many requests an accepted image is gone on with.
 const GOING_ON: usize = 60;
 
-/// Each room script's first draft into each house script, by the room's lead: some of these only one of the rules grants.
+/// Each room script's first draft into each house script, by a lead of the room: some of these only one of the rules grants.
 fn imports(house: &House) -> Vec<Request> {
     let scripts = |of_house: bool| house.scripts.iter().filter(move |(_, script)| (script.origin == HOUSE) == of_house);
     let mut out = Vec::new();
@@ -114,7 +114,15 @@ fn imports(house: &House) -> Vec<Request> {
     out
 }
 
-/// A run on an accepted image, with reasons: first an administrator's take-back, which is 12, then Imports, then a generated run.
+/// The lead of each room's first lead ended by its last: 8 where they are one.
+fn leads(house: &House) -> impl Iterator<Item = Request> + '_ {
+    house.rooms.iter().map(|room| {
+        let leads = house.leads_of(room);
+        Request::EndLead { u: leads[leads.len() - 1], w: leads[0], room }
+    })
+}
+
+/// A run on an accepted image, with reasons: first an administrator's take-back, which is 12, then Imports and ends of leads, then a generated run.
 fn go_on(program: &Program, bytes: &[u8], by_rule: &mut ByRule) -> Result<usize, String> {
     let Ok(desk) = image::read(bytes) else { return Ok(0) };
     let mut run = Vec::new();
@@ -123,7 +131,7 @@ fn go_on(program: &Program, bytes: &[u8], by_rule: &mut ByRule) -> Result<usize,
         run.extend([0x20, u]);
     }
     let mut after = desk.clone();
-    for request in imports(&desk.house) {
+    for request in imports(&desk.house).into_iter().chain(leads(&desk.house)) {
         after.answer(&request);
         run.extend(request.bytes());
     }

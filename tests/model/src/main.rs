@@ -12,6 +12,7 @@ mod image_cases;
 mod images;
 mod imports;
 mod killed;
+mod leads;
 mod pieces;
 mod places;
 mod program;

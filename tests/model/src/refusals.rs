@@ -89,9 +89,11 @@ impl Desk {
                     .or(outsider(admin != NO, "sort 2 with admin", admin.into()))
             }
             Establish { u, room } | Disband { u, room } => u_(u).or(room_(room)),
-            JoinStaff { u, w, room } | LeaveStaff { u, w, room } | LeaveOutsider { u, w, room } => {
-                u_(u).or(w_(w)).or(room_(room))
-            }
+            JoinStaff { u, w, room }
+            | LeaveStaff { u, w, room }
+            | LeaveOutsider { u, w, room }
+            | MakeLead { u, w, room }
+            | EndLead { u, w, room } => u_(u).or(w_(w)).or(room_(room)),
             JoinOutsider { u, w, room, level, .. } => u_(u).or(w_(w)).or(room_(room)).or(level_(level)),
             Add { u, script, room, .. } | Remove { u, script, room, .. } | Merge { u, script, room, .. } => {
                 u_(u).or(script_(script)).or(room_(room))
@@ -127,7 +129,9 @@ impl Desk {
             JoinStaff { u, w, room }
             | LeaveStaff { u, w, room }
             | JoinOutsider { u, w, room, .. }
-            | LeaveOutsider { u, w, room } => u_(u).or(w_(w)).or(room_(room)),
+            | LeaveOutsider { u, w, room }
+            | MakeLead { u, w, room }
+            | EndLead { u, w, room } => u_(u).or(w_(w)).or(room_(room)),
             Add { u, script, v, room } | Remove { u, script, v, room } | Merge { u, script, v, room } => {
                 u_(u).or(room_(room)).or(script_(script)).or(draft(script, v))
             }
@@ -175,7 +179,9 @@ impl Desk {
             | Remove { u, room, .. }
             | Import { u, room, .. }
             | Merge { u, room, .. }
-            | Disband { u, room } => {
+            | Disband { u, room }
+            | MakeLead { u, room, .. }
+            | EndLead { u, room, .. } => {
                 when(!h.leads(u, room), "u doesn't lead the room", Record::User(u), h.user(u).led, Places::only(room))
             }
             Kill { u, s } => {
@@ -195,7 +201,9 @@ impl Desk {
         let sort = |u: u8| self.house.user(u).sort;
         let user = |fails, clause, u, wanted| when(fails, clause, Record::User(u), sort(u), wanted);
         match *request {
-            JoinStaff { w, .. } | LeaveStaff { w, .. } => user(sort(w) != STAFF, "w not staff", w, STAFF),
+            JoinStaff { w, .. } | LeaveStaff { w, .. } | MakeLead { w, .. } | EndLead { w, .. } => {
+                user(sort(w) != STAFF, "w not staff", w, STAFF)
+            }
             JoinOutsider { w, .. } => user(sort(w) == STAFF, "w staff", w, OUTSIDER),
             LeaveOutsider { w, .. } => user(sort(w) != FREELANCER, "w no freelancer", w, FREELANCER),
             OpenHouse { u, .. } => user(sort(u) != STAFF, "u not staff", u, STAFF),
@@ -210,6 +218,7 @@ impl Desk {
         let h = &self.house;
         let joined = |fails, clause, u: u8, room| when(fails, clause, Record::User(u), h.user(u).joined, Places::only(room));
         let is_in = |u: u8, room| h.user(u).joined.contains(room);
+        let led = |fails, clause, w: u8, room| when(fails, clause, Record::User(w), h.user(w).led, Places::only(room));
         let draft = |fails, clause, v: u32, place| when(fails, clause, Record::Draft(v), h.places(v), Places::only(place));
         let is_at = |v: u32, place| h.places(v).contains(place);
         let origin = |clause, script: u8, place: u8| {
@@ -226,6 +235,12 @@ impl Desk {
                 .or(origin("origin not house", script, HOUSE)),
             Import { script1, script2, room, .. } => origin("origin of script1 not the room", script1, room)
                 .or(origin("origin of script2 not the house", script2, HOUSE)),
+            MakeLead { w, room, .. } => led(h.leads(w, room), "already leads", w, room),
+            EndLead { w, room, .. } => {
+                let leads = h.leads_of(room).len() as u32;
+                led(!h.leads(w, room), "w doesn't lead the room", w, room)
+                    .or(when(leads < 2, "the only lead", Record::Room(room), leads, 2u8))
+            }
             OpenRoom { u, room, .. } => joined(!is_in(u, room), "u not in the room", u, room),
             Read { s, v, .. } | Update { s, v, .. } => match h.sessions[&s].place {
                 Some(place) => draft(!is_at(v, place), "session's place not among them", v, place),

@@ -1,4 +1,4 @@
-// Requests of document 01: kinds, body lengths, frames.
+// Requests of document 01 as 02 adds to them: kinds, body lengths, frames.
 
 #[derive(Clone, Copy, PartialEq, Eq, Debug)]
 pub enum Request {
@@ -13,6 +13,8 @@ pub enum Request {
     Import { u: u8, script1: u8, v: u32, script2: u8, room: u8 },
     Merge { u: u8, script: u8, v: u32, room: u8 },
     Disband { u: u8, room: u8 },
+    MakeLead { u: u8, w: u8, room: u8 },
+    EndLead { u: u8, w: u8, room: u8 },
     OpenRoom { u: u8, s: u8, room: u8, level: u8, c: u16 },
     OpenHouse { u: u8, s: u8, level: u8, c: u16 },
     OpenRo { u: u8, s: u8, level: u8, c: u16 },
@@ -26,9 +28,9 @@ pub enum Request {
 use Request::*;
 
 /// Every known kind, in order.
-pub const KINDS: [u8; 19] = [
-    0x01, 0x02, 0x03, 0x04, 0x05, 0x06, 0x07, 0x08, 0x09, 0x0A, 0x0B, 0x10, 0x11, 0x12, 0x13, 0x14,
-    0x15, 0x16, 0x20,
+pub const KINDS: [u8; 21] = [
+    0x01, 0x02, 0x03, 0x04, 0x05, 0x06, 0x07, 0x08, 0x09, 0x0A, 0x0B, 0x0C, 0x0D, 0x10, 0x11, 0x12,
+    0x13, 0x14, 0x15, 0x16, 0x20,
 ];
 
 /// The Length column; None for an unknown kind.
@@ -43,6 +45,7 @@ pub fn body_length(kind: u8) -> Option<usize> {
         0x09 => 8,
         0x0A => 7,
         0x0B => 2,
+        0x0C | 0x0D => 3,
         0x10 => 6,
         0x11 | 0x12 => 5,
         0x13 | 0x14 => 6,
@@ -88,6 +91,8 @@ fn parse(kind: u8, b: &[u8]) -> Request {
         0x09 => Import { u: b[0], script1: b[1], v: four(2), script2: b[6], room: b[7] },
         0x0A => Merge { u: b[0], script: b[1], v: four(2), room: b[6] },
         0x0B => Disband { u: b[0], room: b[1] },
+        0x0C => MakeLead { u: b[0], w: b[1], room: b[2] },
+        0x0D => EndLead { u: b[0], w: b[1], room: b[2] },
         0x10 => OpenRoom { u: b[0], s: b[1], room: b[2], level: b[3], c: two(4) },
         0x11 => OpenHouse { u: b[0], s: b[1], level: b[2], c: two(3) },
         0x12 => OpenRo { u: b[0], s: b[1], level: b[2], c: two(3) },
@@ -114,6 +119,8 @@ impl Request {
             Import { .. } => 0x09,
             Merge { .. } => 0x0A,
             Disband { .. } => 0x0B,
+            MakeLead { .. } => 0x0C,
+            EndLead { .. } => 0x0D,
             OpenRoom { .. } => 0x10,
             OpenHouse { .. } => 0x11,
             OpenRo { .. } => 0x12,
@@ -135,9 +142,11 @@ impl Request {
                 out.push(admin);
             }
             Establish { u, room } | Disband { u, room } => out.extend([u, room]),
-            JoinStaff { u, w, room } | LeaveStaff { u, w, room } | LeaveOutsider { u, w, room } => {
-                out.extend([u, w, room])
-            }
+            JoinStaff { u, w, room }
+            | LeaveStaff { u, w, room }
+            | LeaveOutsider { u, w, room }
+            | MakeLead { u, w, room }
+            | EndLead { u, w, room } => out.extend([u, w, room]),
             JoinOutsider { u, w: second, room, level, c }
             | OpenRoom { u, s: second, room, level, c } => {
                 out.extend([u, second, room, level]);

@@ -6,7 +6,7 @@ pub type Line = (String, String);
 pub const ACCEPTED: &str = "accepted";
 pub const CUT: &str = "14: an end inside a body";
 pub const UNKNOWN: &str = "15: an unknown kind";
-pub const LEAD: &str = "15: one lead for each room";
+pub const LEAD: &str = "15: a lead for each room";
 pub const FIRST: &str = "15: the first record is not the counter";
 
 /// The images with their files' names and answers.
@@ -63,6 +63,9 @@ pub fn all() -> Vec<(String, &'static str, Vec<Line>)> {
     all.push(("full".into(), ACCEPTED, full(256)));
     all.push(("full-rule-2".into(), ACCEPTED, under_rule_2(full(256))));
     all.push(("drafts-257".into(), "15: more than 256 drafts", full(257)));
+    all.push(("all-users-lead".into(), ACCEPTED, led_by(|_| true)));
+    all.push(("last-user-leads".into(), ACCEPTED, led_by(|id| id == 63)));
+    all.push(("no-user-leads".into(), LEAD, led_by(|_| false)));
     all
 }
 
@@ -78,7 +81,7 @@ const MIDDLING: [(&str, &str); 46] = [
     ("41 00 00 07 FFFF 00000000 00000002 01", "user 0: staff, leads room 1, administrator"),
     ("41 01 00 05 0007 00010006 00000004 01", "user 1: staff in rooms 1, 2 and 16, leads room 2, administrator"),
     ("41 02 00 03 0003 00000000 00010008 00", "user 2: staff, leads rooms 3 and 16"),
-    ("41 05 00 03 0003 00000008 00000000 00", "user 5: staff in room 3"),
+    ("41 05 00 03 0003 00000008 00010000 00", "user 5: staff in room 3, leads room 16 beside user 2"),
     ("41 09 01 02 0001 00000002 00000000 00", "user 9: freelancer in room 1"),
     ("41 0A 01 02 0003 0000000C 00000000 00", "user 10: freelancer in rooms 2 and 3"),
     ("41 14 01 04 0002 00000000 00000000 00", "user 20: freelancer in no room any more"),
@@ -121,6 +124,17 @@ const MIDDLING: [(&str, &str); 46] = [
     ("45 00000029 07 00000008", "draft 41 of script 7: in room 3 alone"),
     ("45 0000002A 00 00000001", "draft 42 of script 0: in the house"),
 ];
+
+/// Every user and room there can be, all of them staff; some lead every room.
+fn led_by(leads: impl Fn(u32) -> bool) -> Vec<Line> {
+    let mut out: Vec<Line> = vec![("40 00000000".into(), "last number 0".into())];
+    for id in 0..64 {
+        let (led, says) = if leads(id) { (0x0001_FFFE, "leads every room") } else { (0, "leads none") };
+        out.push((format!("41 {id:02X} 00 03 0001 00000000 {led:08X} {:02X}", (id == 0) as u8), format!("user {id}: staff, {says}")));
+    }
+    out.extend((1..=16).map(|id| (format!("42 {id:02X}"), format!("room {id}"))));
+    out
+}
 
 /// Every user, room, script and session there can be, and so many drafts.
 fn full(drafts: u32) -> Vec<Line> {

@@ -50,35 +50,43 @@ returns-11 c = rw (c .before .before .before .request11 .given .1) (c .disband .
 
 returns-12 : tie.Need-returns-12
 unfolding applied
-returns-12 c = rw (c .before .before .before .request12 .given .1) (c .open-writing .ensures)
+returns-12 c = rw (c .before .before .before .request12 .given .1) (c .make-lead .ensures)
 
 returns-13 : tie.Need-returns-13
 unfolding applied
-returns-13 c = rw (c .before .before .before .request13 .given .1) (c .open-writing2 .ensures)
+returns-13 c = rw (c .before .before .before .request13 .given .1) (c .end-lead .ensures)
 
 returns-14 : tie.Need-returns-14
 unfolding applied
-returns-14 c = rw (c .before .before .before .request14 .given .1) (c .open-reading .ensures)
+returns-14 c = rw (c .before .before .before .request14 .given .1) (c .open-writing .ensures)
 
 returns-15 : tie.Need-returns-15
 unfolding applied
-returns-15 c = rw (c .enum-told .given .1)
+returns-15 c = rw (c .before .before .before .request15 .given .1) (c .open-writing2 .ensures)
 
 returns-16 : tie.Need-returns-16
 unfolding applied
-returns-16 c = rw (c .before .before .before .request15 .given .1) (c .update .ensures)
+returns-16 c = rw (c .before .before .before .request16 .given .1) (c .open-reading .ensures)
 
 returns-17 : tie.Need-returns-17
 unfolding applied
-returns-17 c = rw (c .before .before .before .request16 .given .1) (c .create .ensures)
+returns-17 c = rw (c .enum-told .given .1)
 
 returns-18 : tie.Need-returns-18
 unfolding applied
-returns-18 c = rw (c .before .before .before .request17 .given .1) (c .kill .ensures)
+returns-18 c = rw (c .before .before .before .request17 .given .1) (c .update .ensures)
 
 returns-19 : tie.Need-returns-19
 unfolding applied
-returns-19 c = rw (c .enum-told2 .given .1)
+returns-19 c = rw (c .before .before .before .request18 .given .1) (c .create .ensures)
+
+returns-20 : tie.Need-returns-20
+unfolding applied
+returns-20 c = rw (c .before .before .before .request19 .given .1) (c .kill .ensures)
+
+returns-21 : tie.Need-returns-21
+unfolding applied
+returns-21 c = rw (c .enum-told2 .given .1)
 
 pub apply-spec : {M : Type 1} → statement M
 apply-spec =
@@ -88,7 +96,8 @@ apply-spec =
     (λ c. search needs) (λ c κs. search needs) (λ c. search needs) (λ c κs. search needs) (λ c. search needs) (λ c κs. search needs)
     (λ c. search needs) (λ c κs. search needs) (λ c. search needs) (λ c κs. search needs) (λ c. search needs) (λ c κs. search needs)
     (λ c. search needs) (λ c κs. search needs) (λ c. search needs) (λ c κs. search needs) (λ c. search needs) (λ c κs. search needs)
-    (λ c. search needs) (λ c κs. search needs) (λ c. search needs) (λ c κs. search needs) (λ c. search needs) (λ c. search needs)
-    (λ c κs. search needs) (λ c. search needs) (λ c κs. search needs) (λ c. search needs) (λ c κs. search needs) (λ c. search needs) returns
-    returns-2 returns-3 returns-4 returns-5 returns-6 returns-7 returns-8 returns-9 returns-10 returns-11 returns-12 returns-13 returns-14
-    returns-15 returns-16 returns-17 returns-18 returns-19)
+    (λ c. search needs) (λ c κs. search needs) (λ c. search needs) (λ c κs. search needs) (λ c. search needs) (λ c κs. search needs)
+    (λ c. search needs) (λ c κs. search needs) (λ c. search needs) (λ c. search needs) (λ c κs. search needs) (λ c. search needs)
+    (λ c κs. search needs) (λ c. search needs) (λ c κs. search needs) (λ c. search needs) returns returns-2 returns-3 returns-4 returns-5
+    returns-6 returns-7 returns-8 returns-9 returns-10 returns-11 returns-12 returns-13 returns-14 returns-15 returns-16 returns-17
+    returns-18 returns-19 returns-20 returns-21)

@@ -9,7 +9,8 @@ use Rattle.request.proofs.body_length.Tie as tie
 returns : tie.Need-returns
 unfolding bodyLength
 returns c =
-    let c16 = c .before in
+    let c17 = c .before in
+    let c16 = c17 .before in
     let c15 = c16 .before in
     let c14 = c15 .before in
     let c13 = c14 .before in
@@ -26,7 +27,8 @@ returns c =
     let c2 = c3 .before in
     let c1 = c2 .before in
     let kind = c1 .before .args .kind in
-    range {x = kind} tt (c16 .if16 .came) (λ a. a .taken) (λ b. b .left)
+    range {x = kind} tt (c17 .if17 .came) (λ a. a .taken) (λ b. b .left)
+    (range {x = kind} tt (c16 .if16 .came) (λ a. a .taken) (λ b. b .left)
     (range {x = kind} tt (c15 .if15 .came) (λ a. a .taken) (λ b. b .left)
     (range {x = kind} tt (c14 .if14 .came) (λ a. a .taken) (λ b. b .left)
     (range {x = kind} tt (c13 .if13 .came) (λ a. a .taken) (λ b. b .left)
@@ -42,11 +44,11 @@ returns c =
     (range {x = kind} tt (c3 .if3 .came) (λ a. a .taken) (λ b. b .left)
     (range {x = kind} tt (c2 .if2 .came) (λ a. a .taken) (λ b. b .left)
     (range {x = kind} tt (c1 .if1 .came) (λ a. a .taken) (λ b. b .left)
-    (start {first = 0} tt (omega arith))))))))))))))))) (c .if17 .taken)
+    (start {first = 0} tt (omega arith)))))))))))))))))) (c .if18 .taken)
 
 returns-2 : tie.Need-returns-2
 unfolding bodyLength
-returns-2 c = beyond _ _ _ tt (c .if17 .left)
+returns-2 c = beyond _ _ _ tt (c .if18 .left)
 
 pub body-length-spec : {M : Type 1} → statement M
 body-length-spec = tie.close (tie.spec returns returns-2)

@@ -21,7 +21,7 @@ returns c =
     _∙_ {b = byTables (view s) (a .last)}
     (λ i.
     b .before .before .before .rooms-fit .ensures i
-    && b .before .before .users-keep .ensures i && b .before .administered .ensures i && b .one-lead .ensures i
+    && b .before .before .users-keep .ensures i && b .before .administered .ensures i && b .all-led .ensures i
     && c .before .before .sessions-keep .ensures i
     && c .before .scripts-keep .ensures i
     && c .drafts-keep .ensures i)

@@ -5,18 +5,8 @@ use Rattle.effects.proofs.people.establish.Tie as tie
 
 returns : tie.Need-returns
 returns c =
-    let p = c .before .before .before .before .before in
-    rw (
-      c .put-rooms .ensures,
-      c .before .before .«with» .ensures,
-      c .before .before .before .rooms .ensures,
-      p .put-user .ensures,
-      p .before .leading .ensures,
-      p .before .before .before .user-at .ensures,
-    )
+    let p = c .before .before .before in
+    rw (c .put-rooms .ensures, c .before .before .«with» .ensures, p .rooms .ensures, p .before .before .make-lead .ensures)
 
 pub establish-spec : {M : Type 1} → statement M
-establish-spec =
-    tie.close
-    (tie.spec (λ c κs. search needs) (λ c κs. search needs) (λ c κs. search needs) (λ c κs. search needs) (λ c κs. search needs)
-    (λ c κs. search needs) returns)
+establish-spec = tie.close (tie.spec (λ c κs. search needs) (λ c κs. search needs) (λ c κs. search needs) (λ c κs. search needs) returns)

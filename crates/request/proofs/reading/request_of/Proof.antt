@@ -38,33 +38,39 @@ returns-11 : tie.Need-returns-11
 returns-11 c = rw (c .match .keys11)
 
 returns-12 : tie.Need-returns-12
-returns-12 c = rw (c .before .match .keys12, c .pair-of3 .ensures)
+returns-12 c = rw (c .match .keys12)
 
 returns-13 : tie.Need-returns-13
-returns-13 c = rw (c .before .match .keys13, c .pair-of4 .ensures)
+returns-13 c = rw (c .match .keys13)
 
 returns-14 : tie.Need-returns-14
-returns-14 c = rw (c .before .match .keys14, c .pair-of5 .ensures)
+returns-14 c = rw (c .before .match .keys14, c .pair-of3 .ensures)
 
 returns-15 : tie.Need-returns-15
-returns-15 c = rw (c .before .match .keys15, c .number-of5 .ensures)
+returns-15 c = rw (c .before .match .keys15, c .pair-of4 .ensures)
 
 returns-16 : tie.Need-returns-16
-returns-16 c = rw (c .before .match .keys16, c .number-of6 .ensures)
+returns-16 c = rw (c .before .match .keys16, c .pair-of5 .ensures)
 
 returns-17 : tie.Need-returns-17
-returns-17 c = rw (c .match .keys17)
+returns-17 c = rw (c .before .match .keys17, c .number-of5 .ensures)
 
 returns-18 : tie.Need-returns-18
-returns-18 c = rw (c .match .keys18)
+returns-18 c = rw (c .before .match .keys18, c .number-of6 .ensures)
 
 returns-19 : tie.Need-returns-19
 returns-19 c = rw (c .match .keys19)
 
 returns-20 : tie.Need-returns-20
-returns-20 c = rw (not-a-kind _ (c .match .rest))
+returns-20 c = rw (c .match .keys20)
+
+returns-21 : tie.Need-returns-21
+returns-21 c = rw (c .match .keys21)
+
+returns-22 : tie.Need-returns-22
+returns-22 c = rw (not-a-kind _ (c .match .rest))
 
 pub request-of-spec : {M : Type 1} → statement M
 request-of-spec =
     tie.close
-    (tie.spec (λ c κs. search needs) (λ c κs. search needs) (λ c κs. search needs) (λ c κs. search needs) (λ c κs. search needs) (λ c κs. search needs) (λ c κs. search needs) (λ c κs. search needs) (λ c κs. search needs) (λ c κs. search needs) (λ c κs. search needs) returns returns-2 returns-3 returns-4 returns-5 returns-6 returns-7 returns-8 returns-9 returns-10 returns-11 returns-12 returns-13 returns-14 returns-15 returns-16 returns-17 returns-18 returns-19 returns-20)
+    (tie.spec (λ c κs. search needs) (λ c κs. search needs) (λ c κs. search needs) (λ c κs. search needs) (λ c κs. search needs) (λ c κs. search needs) (λ c κs. search needs) (λ c κs. search needs) (λ c κs. search needs) (λ c κs. search needs) (λ c κs. search needs) returns returns-2 returns-3 returns-4 returns-5 returns-6 returns-7 returns-8 returns-9 returns-10 returns-11 returns-12 returns-13 returns-14 returns-15 returns-16 returns-17 returns-18 returns-19 returns-20 returns-21 returns-22)

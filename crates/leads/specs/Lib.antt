@@ -1,0 +1,2 @@
+-- Who leads a room.
+pub mod Leads
