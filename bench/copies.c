@@ -1,6 +1,7 @@
 /*
- * Counts what a program copies: loaded before the C library, it stands in for memcpy and memmove, and says on standard
- * error, when the program ends, how often each was called and with how many bytes, and how many calls were as large as a table.
+ * Counts what a program copies: loaded before the C library, it stands in for memcpy, memmove and memset, and says on standard
+ * error, when the program ends or asks, how often each was called and with how many bytes since it last said so, and how many
+ * copies were as large as a table.
  *
  *   gcc -O2 -fno-builtin -shared -fPIC copies.c -o copies.so; LD_PRELOAD=./copies.so PROGRAM
  */
@@ -9,13 +10,13 @@
 
 enum { TABLE = 1024 }; /* the smallest table of the records, 64 scripts, has 1,024 bytes */
 
-static unsigned long calls[2], bytes[2], tables, table_bytes;
+static unsigned long calls[3], bytes[3], tables, table_bytes;
 
 static void count(int which, size_t n)
 {
     calls[which]++;
     bytes[which] += n;
-    if (n >= TABLE) {
+    if (which < 2 && n >= TABLE) {
         tables++;
         table_bytes += n;
     }
@@ -45,7 +46,21 @@ void *memmove(void *to, const void *from, size_t n)
     return to;
 }
 
-static void __attribute__((destructor)) say(void)
+void *memset(void *to, int byte, size_t n)
 {
-    fprintf(stderr, "memcpy %lu %lu memmove %lu %lu tables %lu %lu\n", calls[0], bytes[0], calls[1], bytes[1], tables, table_bytes);
+    char *t = to;
+    count(2, n);
+    while (n--)
+        *t++ = (char)byte;
+    return to;
+}
+
+void __attribute__((destructor)) say_copied(void)
+{
+    int i;
+    fprintf(stderr, "memcpy %lu %lu memmove %lu %lu tables %lu %lu memset %lu %lu\n", calls[0], bytes[0], calls[1], bytes[1], tables, table_bytes,
+            calls[2], bytes[2]);
+    for (i = 0; i < 3; i++)
+        calls[i] = bytes[i] = 0;
+    tables = table_bytes = 0;
 }

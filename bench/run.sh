@@ -1,9 +1,11 @@
 #!/bin/sh
-# Measures the program beside bench/desk.c: mixed requests, what is copied, the costs that could grow, and images. Prints the results, and writes them into
-# bench/RESULTS.md too. Both programs read a stream from a file and write to /dev/null, in turn, and the best of several runs counts.
+# Measures the program beside bench/desk.c: mixed requests, what is copied, the costs that could grow, and images; then desk_batch, called from C, beside the
+# same rules in C. Prints the results, and writes them into bench/RESULTS.md too. Both programs read a stream from a file and write to /dev/null, in turn, and
+# the best of several runs counts.
 #
-#   sh bench/run.sh [REQUESTS [RUNS]]
+#   [LIBRARY=libhouse.a] sh bench/run.sh [REQUESTS [RUNS]]
 #
+# The archive is built by rt where LIBRARY does not name one.
 # Needs gcc, x86-64, and what tests/model needs, from which the mixed stream comes. A quiet machine is up to you.
 set -eu
 root=$(CDPATH='' cd -- "$(dirname -- "$0")/.." && pwd -P)
@@ -21,6 +23,12 @@ desk=$root/target/bin/desk
 gcc -std=c99 -O2 -D_DEFAULT_SOURCE "$root/bench/desk.c" -o "$work/c"
 gcc -std=c99 -O2 "$root/bench/streams.c" -o "$work/streams"
 gcc -std=c99 -O2 -D_DEFAULT_SOURCE "$root/bench/starts.c" -o "$work/starts"
+library=${LIBRARY:-}
+if [ -z "$library" ]; then
+    (cd "$root" && rt staticlib house) </dev/null >&2
+    library=$root/target/staticlib/libhouse.a
+fi
+gcc -std=c99 -O2 -D_DEFAULT_SOURCE -I"$root/include" "$root/bench/batch.c" "$library" -o "$work/batch"
 gcc -O2 -fno-builtin -fno-tree-loop-distribute-patterns -shared -fPIC "$root/bench/copies.c" -o "$work/copies.so"
 model=$(sh "$root/tests/build-model.sh")
 
@@ -46,6 +54,49 @@ row() {
     "$work/streams" $3 >"$work/one" 2>"$work/setup"
     measure "$work/one"
     awk -v what="$1" -v n="$2" -v c="$best_c" -v d="$best_desk" 'BEGIN { printf "| %s | %.0f | %.0f | %.2f |\n", what, c / n, d / n, d / c }'
+}
+
+# A row of the third table, of what $work/batch said last: what, how many of them, and how they were called.
+called() {
+    awk -F ': C | ms |, desk_batch |, ratio ' -v what="$1" -v n="$2" -v how="$3" '
+        $1 == how { printf "| %s | %.0f | %.0f | %.2f |\n", what, $2 * 1e6 / n, $4 * 1e6 / n, $4 / $2 }' "$work/said"
+}
+
+# The same of a stream of its own, in one batch.
+called_row() {
+    "$work/streams" $3 >"$work/one" 2>"$work/setup"
+    "$work/batch" "$runs" <"$work/one" >"$work/said"
+    called "$1" "$2" "one batch"
+}
+
+# The mixed requests are still in $work/mixed: so many, so many of them granted take-backs.
+from_c() { # COUNT BACK
+    echo
+    echo "## From C, by desk_batch of libhouse.a"
+    echo
+    echo "Both called the same way in one process, which compares all that they answer: nanoseconds each, whole streams divided by their number. Reading the stream and opening the desk are not in it, and no line is printed."
+    echo
+    echo "| | C | desk_batch | ratio |"
+    echo "|---|---|---|---|"
+    "$work/batch" "$runs" <"$work/mixed" >"$work/said"
+    called "a mixed request, all in one batch" "$1" "one batch"
+    called "a mixed request, 64 requests a call" "$1" "64 requests a call"
+    called "a mixed request, one request a call" "$1" "one request a call"
+    called_row "a read, 16 live drafts" 1000000 "reads 16 1000000"
+    called_row "a read, 64 live drafts" 1000000 "reads 64 1000000"
+    called_row "a read, 256 live drafts" 1000000 "reads 256 1000000"
+    called_row "a session opened and taken back, 32 kept changes, full desk" 50000 "take-backs 50000"
+    called_row "a Disband of the full desk, taken back, 32 kept changes" 50000 "disbands 50000"
+    echo
+    LD_PRELOAD=$work/copies.so "$work/batch" copied <"$work/mixed" 2>"$work/copied"
+    awk -v n="$1" -v back="$2" '
+        NR == 2 {
+            batch = $0
+            printf "Copied within desk_batch by calls of memcpy (%d, %d bytes) and memmove (%d, %d bytes), set by memset (%d, %d bytes): ", $2, $3, $5, $6, $11, $12
+            printf "%.1f bytes a request. Calls as large as a table: %d, %d bytes, for %d granted take-backs; ", ($3 + $6 + $12) / n, $8, $9, back
+            printf "without these %.1f bytes a request. ", ($3 + $6 + $12 - $9) / n
+        }
+        NR == 4 { print $0 == batch ? "With one request a call it is the same: no part of a desk_t is copied to call it." : "With one request a call: " $0 "." }' "$work/copied"
 }
 
 # Microseconds that opening an image adds to the start of a program that then reads nothing.
@@ -108,6 +159,7 @@ results() {
     row "a session opened and taken back, 32 kept changes, full desk" 50000 "take-backs 50000"
     row "a Disband of the full desk, taken back, 32 kept changes" 50000 "disbands 50000"
     images
+    from_c "$count" "$back"
 }
 
 results >"$work/results"

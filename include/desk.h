@@ -31,6 +31,9 @@
  *     cc -Iinclude captions.c target/staticlib/libeditor.a
  *
  * The library is code alone: it has no data, neither read-only nor written to.
+ *
+ * libhouse.a, the whole desk (house.h), has the same three functions: a program
+ * links one of the two.
  */
 #ifndef DESK_H
 #define DESK_H

@@ -1,8 +1,12 @@
-/* stdint.h for the kit's clang, which brings no C headers: the types that include/desk.h and tests/editor.c name. */
+/* stdint.h for the kit's clang, which brings no C headers: the types that include/ and the programs in C name. */
 #ifndef HEADERS_STDINT_H
 #define HEADERS_STDINT_H
 
+typedef __UINT8_TYPE__ uint8_t;
+typedef __UINT16_TYPE__ uint16_t;
 typedef __UINT32_TYPE__ uint32_t;
 typedef __UINT64_TYPE__ uint64_t;
+
+#define SIZE_MAX __SIZE_MAX__
 
 #endif

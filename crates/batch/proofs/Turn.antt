@@ -8,10 +8,12 @@ use lib.ListN.{length, take, drop, length-append, length-drop, take-append-drop,
 use lib.Seq.{take-all, take-at, drop-at, drop-drop, getD-drop, length-take-le}
 use Rattle.request.specs.Bytes.{_#_}
 use Rattle.request.specs.Kinds.{bodyLength}
-use Rattle.request.specs.Reading.{frameOf}
+use Rattle.request.specs.Reading.{requestOf, frameOf, lengthIn, startOf}
 use Rattle.request.specs.declared.Frame.{Frame}
 use Rattle.request.specs.declared.Request.{Request}
+use Rattle.request.specs.declared.Start.{Start}
 use Rattle.request.proofs.Framing.{whole-is}
+use Rattle.request.proofs.Ways.{framed, as-framed}
 use Rattle.history.specs.Machine.{outcome, step}
 use Rattle.history.specs.Desk.{deskRules, answerBytes}
 use Rattle.history.specs.declared.Answer.{Answer}
@@ -32,6 +34,11 @@ lent : (A ys bs : List ℕ) (at k : ℕ) → k ≡ length A - at → ys ≡ bs +
 lent A ys bs at k is-k is-ys =
     let l : length (drop at A) ≤ k = simp length-drop (omega arith) in
     simp (is-ys, take-all k (drop at A) l, drop-of-length-le (drop at A) l, drop-drop, append-nil)
+
+lengthOr0 : Start → ℕ
+lengthOr0 (Start.Whole n) = n
+lengthOr0 Start.Unknown = 0
+lengthOr0 Start.Cut = 0
 
 -- where the loop turns: the requests R, the buffer A₀ and the desk d₀ at the start, the buffer A and the desk d now
 pub record Underway (rule : Rule) (R A₀ : List ℕ) (place : ℕ) (d₀ : State) (A : List ℕ) (d : State) (used at : ℕ) : Type 0 where
@@ -123,13 +130,20 @@ module _ {rule : Rule} {R A₀ : List ℕ} {place : ℕ} {d₀ : State} {A : Lis
         ap length (lent A ys bs at (length A - at) refl is-ys)
         ∙ simp (length-append, length-take-le at A (omega arith), length-drop) (omega (arith, h .same-length))
 
-  -- a turn: there are request bytes and answer room, and f was read
-  module _ (in-R : used < length R) (room : ℕ) (is-room : room ≡ length A - at) (five : 5 ≤ room) (f : Frame) (is-f : f ≡ frameOf (take (length R - used) (drop used R))) where
+  -- a turn: there are request bytes and answer room, and the rest of the bytes begins so
+  module _ (in-R : used < length R) (room : ℕ) (is-room : room ≡ length A - at) (five : 5 ≤ room) (f : Start) (is-f : f ≡ startOf (take (length R - used) (drop used R))) where
     room₀ : 5 ≤ length A₀ - at
     room₀ = omega (arith, h .same-length)
 
-    ahead : frameOf (drop used R) ≡ f
-    ahead = sym (is-f ∙ ap frameOf (take-all (length R - used) (drop used R) (simp length-drop (omega arith))))
+    all-of-it : take (length R - used) (drop used R) ≡ drop used R
+    all-of-it = take-all (length R - used) (drop used R) (simp length-drop (omega arith))
+
+    begins : startOf (drop used R) ≡ f
+    begins = sym (is-f ∙ ap startOf all-of-it)
+
+    -- the frame there, where f is s
+    ahead : (s : Start) → f ≡ s → frameOf (drop used R) ≡ framed s (requestOf (drop used R # 0) (drop used R))
+    ahead s is = as-framed (drop used R) ∙ ap (λ (t : Start). framed t (requestOf (drop used R # 0) (drop used R))) (begins ∙ is)
 
     -- the answer a of r bytes is written, and the batch ends by the stop s
     ends : (s : Stop) (a : Answer) → runBatch rule d (drop used R) (length A₀ - at) ≡ stopped d s (answerBytes a)
@@ -144,24 +158,28 @@ module _ {rule : Rule} {R A₀ : List ℕ} {place : ℕ} {d₀ : State} {A : Lis
           (as-long bs ys fits is-ys, omega (arith, h .place-now)),
         )
 
-    pub unknown : f ≡ Frame.Unknown → (r : ℕ) → r ≡ length (answerBytes (Answer.Refused 1))
+    pub unknown : f ≡ Start.Unknown → (r : ℕ) → r ≡ length (answerBytes (Answer.Refused 1))
         → (ys : List ℕ) → ys ≡ answerBytes (Answer.Refused 1) ++ drop (length (answerBytes (Answer.Refused 1))) (take (length A - at) (drop at A))
         → Over rule R A₀ place d₀ d used (back A at ys) (at + r) Stop.Unknown
-    unknown u = ends Stop.Unknown (Answer.Refused 1) (with-unknown rule d (length A₀ - at) (drop used R) room₀ (ahead ∙ u))
+    unknown u = ends Stop.Unknown (Answer.Refused 1) (with-unknown rule d (length A₀ - at) (drop used R) room₀ (ahead Start.Unknown u))
 
-    pub cut : f ≡ Frame.Cut → (r : ℕ) → r ≡ length (answerBytes (Answer.Refused 2))
+    pub cut : f ≡ Start.Cut → (r : ℕ) → r ≡ length (answerBytes (Answer.Refused 2))
         → (ys : List ℕ) → ys ≡ answerBytes (Answer.Refused 2) ++ drop (length (answerBytes (Answer.Refused 2))) (take (length A - at) (drop at A))
         → Over rule R A₀ place d₀ d used (back A at ys) (at + r) Stop.Cut
-    cut u = ends Stop.Cut (Answer.Refused 2) (with-cut rule d (length A₀ - at) (drop used R) (some-left in-R) room₀ (ahead ∙ u))
+    cut u = ends Stop.Cut (Answer.Refused 2) (with-cut rule d (length A₀ - at) (drop used R) (some-left in-R) room₀ (ahead Start.Cut u))
 
-    module _ (q : Request) (is-q : f ≡ Frame.Whole q) (n : ℕ) (is-n : n ≡ bodyLength (R # used)) where
+    module _ (n : ℕ) (is-n : f ≡ Start.Whole n) (q : Request) (is-q : q ≡ requestOf (take (length R - used) (drop used R) # 0) (take (length R - used) (drop used R))) where
+      whole-ahead : frameOf (drop used R) ≡ Frame.Whole q
+      whole-ahead = ahead (Start.Whole n) is-n ∙ ap Frame.Whole (sym (is-q ∙ ap (λ (b : List ℕ). requestOf (b # 0) b) all-of-it))
+
       kind-ahead : bodyLength (drop used R # 0) ≡ n
-      kind-ahead = ap bodyLength (getD-drop used R 0 0 ∙ ap (λ (k : ℕ). R # k) (add-zero used)) ∙ sym is-n
+      unfolding bodyLength lengthOr0
+      kind-ahead = ap lengthOr0 (sym (ap (lengthIn (drop used R # 0)) whole-ahead) ∙ begins ∙ is-n)
 
       -- the request's bytes are all there
       pub inside : used + (1 + n) ≤ length R
       inside =
-          let w = whole-is (drop used R) q (ahead ∙ is-q) .inside in
+          let w = whole-is (drop used R) q whole-ahead .inside in
           let l : length (drop used R) ≡ length R - used = length-drop used R in
           omega (arith, kind-ahead, w)
 
@@ -174,7 +192,7 @@ module _ {rule : Rule} {R A₀ : List ℕ} {place : ℕ} {d₀ : State} {A : Lis
           let small : length bs ≤ 5 = at-most-five a in
           let fits : at + length bs ≤ length A = omega arith in
           let step : runBatch rule d (drop used R) (length A₀ - at) ≡ behind (suc n) bs (runBatch rule d' (drop (suc n) (drop used R)) (length A₀ - at - length bs)) =
-          with-request rule d (length A₀ - at) (drop used R) room₀ q (ahead ∙ is-q) (outcome d' a) (sym is) n kind-ahead in
+          with-request rule d (length A₀ - at) (drop used R) room₀ q whole-ahead (outcome d' a) (sym is) n kind-ahead in
           let e₁ : used + suc n ≡ used + (1 + n) = omega arith in
           let e₂ : length A₀ - at - length bs ≡ length A₀ - (at + r) = omega (arith, is-r) in
           let e₃ : drop (suc n) (drop used R) ≡ drop (used + (1 + n)) R = drop-drop (suc n) used R ∙ ap (λ (k : ℕ). drop k R) e₁ in

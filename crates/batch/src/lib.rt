@@ -10,7 +10,7 @@ use history::Desk;
 use log::Log;
 use records::Cells;
 use records::Rule;
-use request::Frame;
+use request::Start;
 
 // Why a batch ended: no bytes left, no answer room, an unknown kind, a cut body.
 pub enum Stop {
@@ -83,7 +83,7 @@ fn room_left(size: usize, place: usize) -> usize
     if place < size { size - place } else { 0 }
 }
 
-// The desk's parts are lent, so that a batch copies no table. The part of `answers` that is lent on starts at the present place.
+// The desk's parts are lent, so that a batch copies no table, and a request's fields are read where they are handed on. The part of `answers` that is lent on starts at the present place.
 pub fn run(
     base: &mut Cells,
     log: &mut Log,
@@ -105,20 +105,21 @@ pub fn run(
         if room_left(answers.len(), at) < 5 {
             break Stop::NoRoom;
         }
-        let frame = request::read(&requests[used..]);
-        match frame {
-            Frame::Unknown => {
+        let start = request::start_of(&requests[used..]);
+        match start {
+            Start::Unknown => {
                 at += put_answer(&mut answers[at..], Answer::Refused(1));
                 break Stop::Unknown;
             }
-            Frame::Cut => {
+            Start::Cut => {
                 at += put_answer(&mut answers[at..], Answer::Refused(2));
                 break Stop::Cut;
             }
-            Frame::Whole(request) => {
+            Start::Whole(length) => {
+                let request = request::first(&requests[used..]);
                 let answer = history::take(base, log, current, last, rule, request);
                 at += put_answer(&mut answers[at..], answer);
-                used += 1 + request::body_length(requests[used] as u32) as usize;
+                used += 1 + length as usize;
             }
         }
     };

@@ -29,8 +29,15 @@ module _ {A : Type 0} (p : A → Bool) where
       either false = refl
 
   module _ (l : List A) where
-    pub none-moved : MovedUp p l 0 0 l
-    none-moved = record { behind = omega arith; size = refl; front = refl; rest = refl }
+    -- the first i stay where they are
+    pub none-moved : (i : ℕ) → filter p (take i l) ≡ take i l → MovedUp p l i i l
+    none-moved i e = record { behind = omega arith; size = refl; front = sym e; rest = refl }
+
+    pub stays-next : (i : ℕ) (d : A) → i < length l → p (getD l i d) ≡ true → filter p (take i l) ≡ take i l → filter p (take (i + 1) l) ≡ take (i + 1) l
+    stays-next i d h t e = rw (add-one i, take-suc l i d h, keep-append (take i l) (getD l i d ∷ []), e, t)
+
+    pub stays-stored : (i : ℕ) (v : A) → i < length l → p v ≡ true → filter p (take i l) ≡ take i l → filter p (take (i + 1) (set l i v)) ≡ take (i + 1) (set l i v)
+    stays-stored i v h t e = rw (add-one i, take-suc-set l i v h, keep-append (take i l) (v ∷ []), e, t)
 
     module _ (i n : ℕ) (a : List A) (d : A) (m : MovedUp p l i n a) where
       -- the next element is as it was
@@ -75,13 +82,6 @@ module _ {A : Type 0} (key : A → ℕ) (n : ℕ) (l : List A) where
   module _ (i : ℕ) (m : List Bool) (d : A) (h : i < length l) (before : Marked key n l i m) where
     further : (k : ℕ) → any (λ x. eqb (key x) k) (drop i l) ≡ (eqb (key (getD l i d)) k || any (λ x. eqb (key x) k) (drop (i + 1) l))
     further k = rw (drop-cons l i d h, add-one)
-
-    -- a key that has no place
-    pub marked-beyond : n ≤ key (getD l i d) → Marked key n l (i + 1) m
-    marked-beyond e = record {
-      size = before .size;
-      marks = λ k b. rw (further k, ne-eqb (key (getD l i d)) k (λ q. omega arith)) at (before .marks k b);
-    }
 
     pub marked-more : (x : ℕ) → x ≡ key (getD l i d) → x < n → Marked key n l (i + 1) (set m x true)
     marked-more x e below = record { size = length-set m x true ∙ before .size; marks = λ k b. go k (eqb x k) refl (rw (further k, ← e) at (before .marks k b)) }

@@ -14,8 +14,8 @@ module _ {A : Type 0} (q : Part A) (h₀ : House) (p : A → Bool) where
     pub only : h ≡ q .put h₀ (q .get h)
     pub moved : MovedUp p (q .get h₀) i n (q .get h)
 
-  pub sift-start : Sifted 0 0 h₀
-  sift-start = record { only = sym (q .same h₀); moved = none-moved p (q .get h₀) }
+  pub sift-start : (i : ℕ) → filter p (take i (q .get h₀)) ≡ take i (q .get h₀) → Sifted i i h₀
+  sift-start i e = record { only = sym (q .same h₀); moved = none-moved p (q .get h₀) i e }
 
   pub sift-keep : (i n : ℕ) (h k : House) (d : A) → Sifted i n h → i < length (q .get h₀) → p (getD (q .get h) i d) ≡ true
       → k ≡ q .put h (set (q .get h) n (getD (q .get h) i d)) → Sifted (i + 1) (n + 1) k

@@ -1,4 +1,4 @@
--- A user or a draft whose sets a room's end leaves as they are is the same user or draft.
+-- A user whose sets a room's end leaves as they are is the same user.
 use mathlib.Core.Path.{_≡_, refl, sym, ap, _∙_}
 use mathlib.Core.Bool.{Bool, true, false, _&&_}
 use Prim.Native.Nat.{ℕ}
@@ -8,10 +8,9 @@ use borrow.Author.Tests.{eqb-true}
 use Rattle.request.proofs.Absurd.{differ}
 use Rattle.records.specs.Places.{without}
 use Rattle.records.specs.declared.User.{User}
-use Rattle.records.specs.declared.Draft.{Draft}
-use Rattle.effects.specs.Elements.{parted, unplaced}
+use Rattle.effects.specs.Elements.{parted}
 
-both : (a b : Bool) → (a && b) ≡ true → (a ≡ true) × (b ≡ true)
+pub both : (a b : Bool) → (a && b) ≡ true → (a ≡ true) × (b ≡ true)
 both true b e = (refl, e)
 both false b e = differ cc
 
@@ -34,8 +33,3 @@ same-user room u v e w p t =
     let r : without (v .rooms) room ≡ v .rooms = ap (λ (x : User). x .rooms) (sym p) ∙ eqb-true _ _ (k .0) in
     let l : without (v .leads) room ≡ v .leads = ap (λ (x : User). x .leads) (sym p) ∙ eqb-true _ _ (k .1) in
     ap (parted room) (sym e) ∙ parted-same room v r l ∙ e
-
-pub same-draft : (room : ℕ) (d v : Draft) → v ≡ d → (w : Draft) → w ≡ unplaced room v → w .places ≡ v .places → unplaced room d ≡ d
-same-draft room d v e w p t =
-    let l : without (v .places) room ≡ v .places = ap (λ (x : Draft). x .places) (sym p) ∙ t in
-    ap (unplaced room) (sym e) ∙ (λ i. record { number = v .number; script = v .script; places = l i }) ∙ e

@@ -85,5 +85,8 @@ effect h n (Request.Kill u x) = putSession h x noSession
 effect h n (Request.TakeBack u) = h
 
 -- a change: a request with the draft number that it received
+abbrev pub changeOf : Request → ℕ → Change
+changeOf q n = record { request = q; number = n }
+
 unfoldable pub applied : House → Change → House
 applied h c = effect h (c .number) (c .request)

@@ -4,7 +4,7 @@ mod texts;
 
 ghost use mathlib.Core.Path.{_≡_};
 ghost use Rattle.records.specs.House.{view};
-ghost use Rattle.effects.specs.Effects.{applied};
+ghost use Rattle.effects.specs.Effects.{changeOf, applied};
 pub use people::disband;
 pub use people::enrol;
 pub use people::establish;
@@ -25,11 +25,10 @@ pub struct Change {
     pub number: u32,
 }
 
-pub fn apply(records: &mut Cells, change: Change)
-    ensures { λ _. ⌜ view (now (records .exit)) ≡ applied (view (now (records .entry))) change ⌝ }
+// The request and its number come apart: put together, a request would be copied for each change that is made again.
+pub fn apply(records: &mut Cells, request: Request, number: u32)
+    ensures { λ _. ⌜ view (now (records .exit)) ≡ applied (view (now (records .entry))) (changeOf request number) ⌝ }
 {
-    let request = change.request;
-    let number = change.number;
     match request {
         Request::Enrol {
             u: _,

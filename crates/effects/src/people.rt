@@ -9,6 +9,7 @@ ghost use Rattle.effects.specs.Effects.{departed, arrived, disbanded};
 use crate::texts::cut_places;
 use crate::texts::shut_scripts;
 use crate::texts::sweep;
+use crate::texts::sweep_scripts;
 use records::Cells;
 use records::User;
 use sessions::Ending;
@@ -136,10 +137,14 @@ pub fn disband(records: &mut Cells, room: u8)
     ensures { λ _. ⌜ view (now (records .exit)) ≡ disbanded (view (now (records .entry))) room ⌝ }
 {
     part_users(records, room);
-    cut_places(records, room);
+    let placed = cut_places(records, room);
     shut_scripts(records, room);
     sessions::end_sessions(records, Ending::OfRoom { room });
     let rooms = records::without(records::rooms(records), room);
     records::put_rooms(records, rooms);
+    if placed {
+        sweep_scripts(records);
+        return;
+    }
     sweep(records);
 }

@@ -1,14 +1,14 @@
 // What becomes of scripts and drafts: Add, Remove, Import, Merge, Update, Create, and those that go with a room.
 ghost use mathlib.Core.Path.{_≡_};
 ghost use mathlib.Core.List.{map};
-ghost use Prim.Native.Nat.{ℕ, _<_};
-ghost use mathlib.Core.Bool.{false};
-ghost use lib.ListN.{getD};
-ghost use Rattle.records.specs.Lists.{any};
+ghost use Prim.Native.Nat.{ℕ, _<_, _≤_};
+ghost use mathlib.Core.Bool.{true, false};
+ghost use lib.ListN.{length, take, getD};
+ghost use Rattle.records.specs.Lists.{any, filter};
 ghost use Rattle.records.specs.House.{view, session, putScript, addDraft, withScripts, withDrafts};
 ghost use Rattle.records.specs.Places.{only};
 ghost use Rattle.effects.specs.Elements.{draftOf, placedAt, unplaced, createdBy, shuts, shut};
-ghost use Rattle.records.specs.Lookups.{ofScript};
+ghost use Rattle.records.specs.Lookups.{ofScript, placed};
 ghost use Rattle.effects.specs.Effects.{onDraft, removed, sweptDrafts, sweptScripts, swept};
 use records::Cells;
 use records::Draft;
@@ -44,30 +44,42 @@ pub fn add_place(records: &mut Cells, script: u8, number: u32, place: u8)
 }
 
 // ---- drafts without a place go, then scripts without a draft
-// Which scripts have a draft, each at its id: one pass over the drafts, not one a script.
-fn drafted(records: &Cells) -> [bool; 64]
-    ensures { λ r. ⌜ ((script : ℕ) → script < 64 → getD r script false ≡ any (ofScript script) (view (now (records .entry)) .drafts)) ⌝ }
+// Which scripts have a draft, each at its id: one pass over the drafts, not one a script. Any byte has its place, so that no id is asked for its bounds.
+fn drafted(records: &Cells) -> [bool; 256]
+    ensures { λ r. ⌜ ((script : ℕ) → script < 256 → getD r script false ≡ any (ofScript script) (view (now (records .entry)) .drafts)) ⌝ }
 {
-    let mut found = [false; 64];
+    let mut found = [false; 256];
     let end = records::draft_count(records);
     'drafts: for i in 0..end {
         let draft = records::draft_at(records, i);
         let script = draft.script as usize;
-        if 63 < script {
-            continue 'drafts;
-        }
         found[script] = true;
     }
     found
+}
+
+// How many drafts at the front have a place: they stay where they are.
+fn placed_front(records: &Cells) -> usize
+    ensures { λ r. ⌜ (r ≤ length (view (now (records .entry)) .drafts)) × (filter placed (take r (view (now (records .entry)) .drafts)) ≡ take r (view (now (records .entry)) .drafts)) ⌝ }
+{
+    let end = records::draft_count(records);
+    'drafts: for i in 0..end {
+        let draft = records::draft_at(records, i);
+        if draft.places == 0 {
+            return i;
+        }
+    }
+    end
 }
 
 // The drafts that have a place move up into the room of those that have none.
 fn sweep_drafts(records: &mut Cells)
     ensures { λ _. ⌜ view (now (records .exit)) ≡ withDrafts (view (now (records .entry))) (sweptDrafts (view (now (records .entry)) .drafts)) ⌝ }
 {
-    let mut n: usize = 0;
+    let start = placed_front(records);
+    let mut n = start;
     let end = records::draft_count(records);
-    'drafts: for i in 0..end {
+    'drafts: for i in start..end {
         let draft = records::draft_at(records, i);
         if draft.places == 0 {
             continue 'drafts;
@@ -78,7 +90,7 @@ fn sweep_drafts(records: &mut Cells)
     records::cut_drafts(records, n);
 }
 
-fn sweep_scripts(records: &mut Cells)
+pub(crate) fn sweep_scripts(records: &mut Cells)
     ensures { λ _. ⌜ view (now (records .exit)) ≡ withScripts (view (now (records .entry))) (sweptScripts (view (now (records .entry)) .drafts) (view (now (records .entry)) .scripts)) ⌝ }
 {
     let found = drafted(records);
@@ -155,18 +167,19 @@ pub fn create(records: &mut Cells, s: u8, script: u8, number: u32)
 }
 
 // ---- a room goes
-pub(crate) fn cut_places(records: &mut Cells, room: u8)
-    ensures { λ _. ⌜ view (now (records .exit)) ≡ withDrafts (view (now (records .entry))) (map (unplaced room) (view (now (records .entry)) .drafts)) ⌝ }
+// Every draft is stored again: to ask each whether it changed would take longer. Yes where each still has a place, so that none is to be swept.
+pub(crate) fn cut_places(records: &mut Cells, room: u8) -> bool
+    ensures { λ r. ⌜ (view (now (records .exit)) ≡ withDrafts (view (now (records .entry))) (map (unplaced room) (view (now (records .entry)) .drafts))) × (r ≡ true → sweptDrafts (map (unplaced room) (view (now (records .entry)) .drafts)) ≡ map (unplaced room) (view (now (records .entry)) .drafts)) ⌝ }
 {
+    let mut placed = true;
     let end = records::draft_count(records);
     'drafts: for i in 0..end {
         let draft = records::draft_at(records, i);
         let less = unplaced(draft, room);
-        if less.places == draft.places {
-            continue 'drafts;
-        }
         records::put_draft(records, i, less);
+        placed = placed & (less.places != 0);
     }
+    placed
 }
 
 fn shuts(script: Script, room: u8) -> bool

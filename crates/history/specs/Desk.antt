@@ -8,7 +8,7 @@ use Rattle.request.specs.Bytes.{quadBytes}
 use Rattle.request.specs.declared.Request.{Request}
 use Rattle.records.specs.House.{House, emptyHouse, view}
 use Rattle.records.specs.declared.Rule.{Rule}
-use Rattle.effects.specs.Effects.{applied}
+use Rattle.effects.specs.Effects.{changeOf, applied}
 use Rattle.effects.specs.declared.Change.{Change}
 use Rattle.log.specs.Log.{past}
 use Rattle.judge.specs.Kinds.{rulingOf}
@@ -16,10 +16,6 @@ use Rattle.judge.specs.declared.Ruling.{Ruling}
 use Rattle.judge.specs.declared.Ruling.the-variants.{Refused, Pass, Keep, KeepNumbered, TakeBack}
 use Rattle.history.specs.Machine.{Verdict, refuse, pass, make, issue, undo, Rulebook, Desk, opened}
 use Rattle.history.specs.declared.Answer.{Answer}
-
--- a change: the request, and the draft number that it received
-abbrev pub changeOf : Request → ℕ → Change
-changeOf q n = record { request = q; number = n }
 
 abbrev pub verdictOf : Request → Ruling → Verdict Change
 verdictOf q (Refused r) = refuse (r .number)

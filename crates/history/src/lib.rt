@@ -4,7 +4,8 @@ ghost use Prim.Native.Nat.{ℕ};
 ghost use Rattle.records.specs.House.{view, emptyHouse};
 ghost use Rattle.log.specs.Log.{past};
 ghost use Rattle.history.specs.Machine.{opened, outcome, keepChange, takeBack, issued, ruled, step};
-ghost use Rattle.history.specs.Desk.{shown, deskRules, opens, openedUnder, changeOf, verdictOf, settled, answerByte};
+ghost use Rattle.effects.specs.Effects.{changeOf};
+ghost use Rattle.history.specs.Desk.{shown, deskRules, opens, openedUnder, verdictOf, settled, answerByte};
 ghost use Rattle.counter.specs.Numbers.{nextAfter};
 use counter::Next;
 use effects::Change;
@@ -79,16 +80,15 @@ fn settle(base: &mut Cells, log: &Log)
     if log::kept_count(log) < 32 {
         return;
     }
-    let oldest = log::change_at(log, 0);
-    effects::apply(base, oldest);
+    log::redo(base, log, 0);
 }
 
-fn make(base: &mut Cells, log: &mut Log, current: &mut Cells, change: Change)
-    ensures { λ _. ⌜ ((rule : Rule) (n m : ℕ) → shown (now (base .exit)) (now (log .exit)) (now (current .exit)) n ≡ keepChange (deskRules rule) (shown (now (base .entry)) (now (log .entry)) (now (current .entry)) m) change n) ⌝ }
+fn make(base: &mut Cells, log: &mut Log, current: &mut Cells, request: Request, number: u32)
+    ensures { λ _. ⌜ ((rule : Rule) (n m : ℕ) → shown (now (base .exit)) (now (log .exit)) (now (current .exit)) n ≡ keepChange (deskRules rule) (shown (now (base .entry)) (now (log .entry)) (now (current .entry)) m) (changeOf request number) n) ⌝ }
 {
-    effects::apply(current, change);
+    effects::apply(current, request, number);
     settle(base, log);
-    log::push(log, change);
+    log::push(log, Change { request, number });
 }
 
 // The counter is stepped only where a number is left, and it never goes back.
@@ -107,7 +107,7 @@ fn make_numbered(
         return Answer::Refused(11);
     };
     *last = issued.last;
-    make(base, log, current, Change { request, number });
+    make(base, log, current, request, number);
     Answer::Numbered(number)
 }
 
@@ -137,7 +137,7 @@ pub fn act(
         Ruling::Refused(reason) => Answer::Refused(reason.number),
         Ruling::Pass => Answer::Granted,
         Ruling::Keep => {
-            make(base, log, current, Change { request, number: 0 });
+            make(base, log, current, request, 0);
             Answer::Granted
         }
         Ruling::KeepNumbered => make_numbered(base, log, current, last, request),

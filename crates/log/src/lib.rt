@@ -9,7 +9,6 @@ ghost use Rattle.effects.specs.Effects.{applied};
 ghost use Rattle.log.specs.Log.{changeTable, past, noChange, pushed, popped};
 use effects::Change;
 use records::Cells;
-use request::Request;
 
 // Byte 0 is the slot of the oldest change and byte 1 their number; then 32 slots of 13 bytes: nine of the request, four of the number.
 // A ring, so that a full log takes one more without moving the others.
@@ -58,9 +57,10 @@ fn slot_of(log: &Log, i: usize) -> usize
     (wide(log[0]) + i) % 32
 }
 
-fn read_slot(log: &Log, slot: usize) -> Change
+// The change in a slot, made again.
+fn redo_slot(records: &mut Cells, log: &Log, slot: usize)
     requires { ⌜ slot < 32 ⌝ }
-    ensures { λ r. ⌜ r ≡ at changeTable (now (log .entry)) slot ⌝ }
+    ensures { λ _. ⌜ view (now (records .exit)) ≡ applied (view (now (records .entry))) (at changeTable (now (log .entry)) slot) ⌝ }
 {
     let at = SLOTS + 13 * slot;
     let request = request::request_of(
@@ -75,7 +75,7 @@ fn read_slot(log: &Log, slot: usize) -> Change
         log[at + 8],
     );
     let number = request::number_of(log[at + 9], log[at + 10], log[at + 11], log[at + 12]);
-    Change { request, number }
+    effects::apply(records, request, number);
 }
 
 fn write_slot(log: &mut Log, slot: usize, change: Change)
@@ -101,17 +101,15 @@ fn write_slot(log: &mut Log, slot: usize, change: Change)
     log[at + 12] = number.d;
 }
 
-// Kept change i, the oldest being 0; past the newest a change without effect.
-pub fn change_at(log: &Log, i: usize) -> Change
-    ensures { λ r. ⌜ r ≡ getD (past (now (log .entry))) i noChange ⌝ }
+// Kept change i made again, the oldest being 0; past the newest nothing happens.
+pub fn redo(records: &mut Cells, log: &Log, i: usize)
+    ensures { λ _. ⌜ view (now (records .exit)) ≡ applied (view (now (records .entry))) (getD (past (now (log .entry))) i noChange) ⌝ }
 {
     if kept_count(log) <= i {
-        return Change {
-            request: Request::TakeBack { u: 0 },
-            number: 0,
-        };
+        return;
     }
-    read_slot(log, slot_of(log, i))
+    let slot = slot_of(log, i);
+    redo_slot(records, log, slot);
 }
 
 // One change more; of a full log the oldest is given up for it.
@@ -149,7 +147,6 @@ pub fn replay(base: &Cells, log: &Log, current: &mut Cells)
     *current = records;
     let end = kept_count(log);
     'changes: for i in 0..end {
-        let change = change_at(log, i);
-        effects::apply(current, change);
+        redo(current, log, i);
     }
 }

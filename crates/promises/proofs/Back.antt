@@ -14,7 +14,8 @@ use Rattle.judge.specs.Kinds.{grantOf}
 use Rattle.judge.specs.declared.Ruling.{Ruling}
 use Rattle.judge.specs.declared.Ruling.the-variants.{Pass, Keep, KeepNumbered}
 use Rattle.history.specs.Machine.{Rulebook, Desk, Outcome, opened, changed, keepChange, step, run, answers}
-use Rattle.history.specs.Desk.{changeOf, deskRules}
+use Rattle.effects.specs.Effects.{changeOf}
+use Rattle.history.specs.Desk.{deskRules}
 use Rattle.promises.specs.Book.{blank}
 use Rattle.promises.specs.Events.{reachedDesk}
 use Rattle.promises.specs.Grants.{grants}

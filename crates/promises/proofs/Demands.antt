@@ -8,7 +8,7 @@ use Rattle.request.specs.declared.Request.the-variants.{TakeBack}
 use Rattle.request.proofs.Absurd.{differ}
 use Rattle.records.specs.House.{House}
 use Rattle.records.specs.declared.Rule.{Rule}
-use Rattle.effects.specs.Effects.{applied}
+use Rattle.effects.specs.Effects.{changeOf, applied}
 use Rattle.effects.specs.declared.Change.{Change}
 use Rattle.reasons.specs.Asking.{AllHold, FirstFailing}
 use Rattle.reasons.specs.declared.Reason.{Reason}
@@ -18,7 +18,7 @@ use Rattle.judge.specs.declared.Ruling.the-variants.{Pass, Keep, KeepNumbered}
 use Rattle.judge.proofs.Order.{granted-exactly, refused-exactly}
 use Rattle.counter.specs.Numbers.{top}
 use Rattle.history.specs.Machine.{pass, make, issue, undo, Desk, outcome, opened, keepChange, issued, ruled, step}
-use Rattle.history.specs.Desk.{changeOf, verdictOf, deskRules}
+use Rattle.history.specs.Desk.{verdictOf, deskRules}
 use Rattle.history.specs.declared.Answer.{Answer}
 use Rattle.promises.specs.Back.{TakenBack}
 use Rattle.promises.specs.Book.{blank, bookAfter, numbers, Rising, kept, back, nothing, events, survive, Shows}

@@ -25,10 +25,11 @@ use Rattle.history.specs.Desk.{verdictOf, deskRules, shown, openedUnder}
 use Rattle.history.specs.declared.Answer.{Answer}
 use Rattle.history.specs.declared.Desk.{Desk}
 use Rattle.history.specs.declared.Opened.{Opened}
-use Rattle.batch.specs.Batch.{State, Batched}
+use Rattle.batch.specs.Batch.{State, stopNumber, Batched}
 use Rattle.batch.specs.declared.Ran.{Ran}
 use Rattle.batch.specs.declared.RanDesk.{RanDesk}
 use Rattle.batch.proofs.Bounds.{one-result}
+use Rattle.house.specs.Calls.{Left, left, asOpened, asLoaded, BatchCall}
 
 -- r and s are results (or what a view shows of records), v what the definition says
 pub determined : {A : Type 0} {r s v : A} → r ≡ v → s ≡ v → r ≡ s
@@ -106,3 +107,32 @@ pub one-ran-desk : (rule : Rule) (d : State) (requests answers : List ℕ) (plac
     → Batched rule d requests answers place (shownOf (s .desk)) (s .ran) answers₂ × (s .desk .rule ≡ rule)
     → ((shownOf (r .desk) ≡ shownOf (s .desk)) × ((r .ran ≡ s .ran) × (answers₁ ≡ answers₂))) × (r .desk .rule ≡ s .desk .rule)
 one-ran-desk rule d requests answers place r s answers₁ answers₂ p q = (one-result (p .0) (q .0), determined (p .1) (q .1))
+
+-- ---- from C: r and s are the numbers answered, rule₁ and rule₂ those of the desk's rule
+one-left : {o : Left} (d₁ d₂ : State) (r s rule₁ rule₂ : ℕ) → left r d₁ rule₁ ≡ o → left s d₂ rule₂ ≡ o → (r ≡ s) × (d₁ ≡ d₂) × (rule₁ ≡ rule₂)
+one-left d₁ d₂ r s rule₁ rule₂ p q =
+    (ap (λ (l : Left). l .answer) (determined p q), ap (λ (l : Left). l .desk) (determined p q), ap (λ (l : Left). l .rule) (determined p q))
+
+-- two results of house::desk_open_parts: one-house-opened
+pub one-house-opened : (start under : ℕ) (d₁ d₂ : State) (r s rule₁ rule₂ : ℕ)
+    → left r d₁ rule₁ ≡ asOpened (openedUnder start under) → left s d₂ rule₂ ≡ asOpened (openedUnder start under) → (r ≡ s) × (d₁ ≡ d₂) × (rule₁ ≡ rule₂)
+one-house-opened start under d₁ d₂ r s rule₁ rule₂ p q = one-left d₁ d₂ r s rule₁ rule₂ p q
+
+-- two results of house::desk_load_parts: one-house-loaded
+pub one-house-loaded : (image : List ℕ) (d₁ d₂ : State) (r s rule₁ rule₂ : ℕ)
+    → left r d₁ rule₁ ≡ asLoaded (deskBy image) → left s d₂ rule₂ ≡ asLoaded (deskBy image) → (r ≡ s) × (d₁ ≡ d₂) × (rule₁ ≡ rule₂)
+one-house-loaded image d₁ d₂ r s rule₁ rule₂ p q = one-left d₁ d₂ r s rule₁ rule₂ p q
+
+-- two results of house::desk_batch_parts: one-house-batch
+pub one-house-batch : (rule : Rule) (d : State) (requests answers : List ℕ) (place : ℕ) (d₁ d₂ : State) (r s used₁ used₂ written₁ written₂ : ℕ) (answers₁ answers₂ : List ℕ)
+    → BatchCall rule d requests answers place d₁ r used₁ written₁ answers₁ → BatchCall rule d requests answers place d₂ s used₂ written₂ answers₂
+    → (r ≡ s) × (d₁ ≡ d₂) × (used₁ ≡ used₂) × (written₁ ≡ written₂) × (answers₁ ≡ answers₂)
+one-house-batch rule d requests answers place d₁ d₂ r s used₁ used₂ written₁ written₂ answers₁ answers₂ p q =
+    let same = one-result (p .batched) (q .batched) in
+    let ran = same .1 .0 in (
+      p .is-number ∙ ap (λ (t : Ran). stopNumber (t .stop)) ran ∙ sym (q .is-number),
+      same .0,
+      ap (λ (t : Ran). t .used) ran,
+      ap (λ (t : Ran). t .written) ran,
+      same .1 .1,
+    )

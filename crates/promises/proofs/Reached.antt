@@ -9,7 +9,7 @@ use Rattle.request.specs.declared.Request.{Request}
 use Rattle.records.specs.Lists.{all}
 use Rattle.records.specs.House.{House}
 use Rattle.records.specs.declared.Rule.{Rule}
-use Rattle.effects.specs.Effects.{applied}
+use Rattle.effects.specs.Effects.{changeOf, applied}
 use Rattle.effects.specs.declared.Change.{Change}
 use Rattle.reasons.specs.Asking.{AllHold}
 use Rattle.judge.specs.declared.Ruling.{Ruling}
@@ -18,7 +18,7 @@ use Rattle.judge.specs.Kinds.{linesOf, grantOf, rulingOf}
 use Rattle.judge.proofs.Order.{granted-exactly}
 use Rattle.counter.specs.Numbers.{top}
 use Rattle.history.specs.Machine.{Desk, Outcome, opened, keepChange, step, run}
-use Rattle.history.specs.Desk.{changeOf, deskRules}
+use Rattle.history.specs.Desk.{deskRules}
 use Rattle.rules.specs.Rules.{rules}
 use Rattle.promises.specs.Events.{reachedDesk}
 use Rattle.promises.specs.Seen.{moment}

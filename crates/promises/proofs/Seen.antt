@@ -16,12 +16,12 @@ use Rattle.records.specs.declared.Found.{Found}
 use Rattle.records.specs.declared.Found.the-variants.{At, Nothing}
 use Rattle.records.specs.declared.Rule.{Rule}
 use Rattle.effects.specs.Elements.{draftOf, placedAt, unplaced}
-use Rattle.effects.specs.Effects.{swept, lessOne, effect, applied}
+use Rattle.effects.specs.Effects.{changeOf, swept, lessOne, effect, applied}
 use Rattle.effects.specs.declared.Change.{Change}
 use Rattle.judge.specs.Kinds.{grantOf}
 use Rattle.judge.specs.declared.Ruling.the-variants.{KeepNumbered}
 use Rattle.history.specs.Machine.{Desk, Outcome, opened, keepChange, step, run, answers}
-use Rattle.history.specs.Desk.{changeOf, deskRules}
+use Rattle.history.specs.Desk.{deskRules}
 use Rattle.history.specs.declared.Answer.{Answer}
 use Rattle.history.specs.declared.Answer.the-variants.{Granted, Numbered, Refused}
 use Rattle.rules.specs.Lists.{Each}

@@ -16,7 +16,8 @@ use Rattle.judge.specs.declared.Ruling.the-variants.{Pass, Keep, KeepNumbered, 
 use Rattle.judge.proofs.Order.{refused-exactly, grant-is-none}
 use Rattle.counter.specs.Numbers.{top}
 use Rattle.history.specs.Machine.{undo, Desk, Outcome, outcome, keepChange, step}
-use Rattle.history.specs.Desk.{changeOf, verdictOf, deskRules}
+use Rattle.effects.specs.Effects.{changeOf}
+use Rattle.history.specs.Desk.{verdictOf, deskRules}
 use Rattle.history.specs.declared.Answer.{Answer}
 use Rattle.promises.specs.Back.{TakenBack}
 use Rattle.promises.proofs.Trace.{none-left, some-left}

@@ -10,7 +10,8 @@ use Rattle.judge.specs.declared.Ruling.the-variants.{Refused, Pass, Keep, KeepN
 use Rattle.records.specs.House.{House}
 use Rattle.records.specs.declared.Rule.{Rule}
 use Rattle.history.specs.Machine.{Desk, opened, run, answers}
-use Rattle.history.specs.Desk.{changeOf, deskRules}
+use Rattle.effects.specs.Effects.{changeOf}
+use Rattle.history.specs.Desk.{deskRules}
 use Rattle.history.specs.declared.Answer.{Answer}
 use Rattle.promises.specs.Book.{Event, kept, back, nothing, events, keptCount}
 

@@ -4,12 +4,16 @@ use mathlib.Core.List.{List, [], _∷_}
 use Prim.Native.Nat.{ℕ, zero, suc, _+_, _≤_, _<_}
 use native.Mathlib.Omega.{arith}
 use lib.ListN.{length}
+use lib.Dec.{eqb, leb}
+use mathlib.Core.Bool.{Bool, true, false, cond}
 use borrow.Author.Tests.{eq-eqb, ne-eqb, le-leb, lt-leb}
 use Rattle.request.specs.Bytes.{_#_}
 use Rattle.request.specs.Kinds.{Row, Sought, at, none, rows, find, lengthAt, bodyLength}
-use Rattle.request.specs.Reading.{fieldsFrom, requestAt, requestOf, frameAt, frameOf}
+use Rattle.request.specs.Reading.{fieldsFrom, requestAt, requestOf, frameAt, frameOf, lengthIn, startOf}
+use Rattle.request.specs.declared.Frame.{Frame}
 use Rattle.request.specs.declared.Frame.the-variants.{Whole, Unknown, Cut}
 use Rattle.request.specs.declared.Request.{Request}
+use Rattle.request.specs.declared.Start.{Start}
 use Rattle.request.proofs.Rows.{found, short-found, unknown-kind}
 use Rattle.request.proofs.Spelling.{Right, all-right, fields-alike}
 
@@ -75,3 +79,22 @@ nine-will-do x b = go (find rows x) refl
         let few = short-found x r rows tt e in
         fields-alike (r .kind) (1 + r .length) (nine b) b (λ j h. nine-alike b j (omega (arith, few, h))) (r .body) [] 1 (found Right x r rows all-right e .holds)
     go none e = refl
+
+-- ---- what is read off bytes, by how far it reaches and by the request of their first byte's row
+abbrev pub framed : Start → Request → Frame
+framed (Start.Whole n) q = Whole q
+framed Start.Unknown q = Unknown
+framed Start.Cut q = Cut
+
+pub as-framed : (b : List ℕ) → frameOf b ≡ framed (startOf b) (requestOf (b # 0) b)
+unfolding frameOf
+as-framed b = go (eqb (length b) 0) (find rows (b # 0))
+  where
+    inner : (t : Bool) (r : Row) → cond t Cut (Whole (fieldsFrom b 1 (r .body))) ≡ framed (lengthIn (b # 0) (cond t Cut (Whole (fieldsFrom b 1 (r .body))))) (fieldsFrom b 1 (r .body))
+    inner true r = refl
+    inner false r = refl
+
+    go : (t : Bool) (s : Sought) → cond t Cut (frameAt s b) ≡ framed (lengthIn (b # 0) (cond t Cut (frameAt s b))) (requestAt s b)
+    go true s = refl
+    go false (at r) = inner (leb (length b) (r .length)) r
+    go false none = refl

@@ -5,10 +5,11 @@ use mathlib.Core.List.{List}
 use lib.Dec.{leb, eqb}
 use lib.ListN.{length}
 use Rattle.request.specs.Bytes.{_#_, pairAt, quadAt}
-use Rattle.request.specs.Kinds.{Body, one, two, four, make, Sought, at, none, rows, find}
+use Rattle.request.specs.Kinds.{Body, one, two, four, make, Sought, at, none, rows, find, bodyLength}
 use Rattle.request.specs.declared.Frame.{Frame}
 use Rattle.request.specs.declared.Frame.the-variants.{Whole, Unknown, Cut}
 use Rattle.request.specs.declared.Request.{Request}
+use Rattle.request.specs.declared.Start.{Start}
 
 -- the request whose fields start at byte i
 abbrev pub fieldsFrom : List ℕ → ℕ → Body → Request
@@ -32,3 +33,12 @@ frameAt none b = Unknown
 
 unfoldable pub frameOf : List ℕ → Frame
 frameOf b = cond (eqb (length b) 0) Cut (frameAt (find rows (b # 0)) b)
+
+-- the same without the fields: of a whole request how long its body is
+abbrev pub lengthIn : ℕ → Frame → Start
+lengthIn kind (Whole q) = Start.Whole (bodyLength kind)
+lengthIn kind Unknown = Start.Unknown
+lengthIn kind Cut = Start.Cut
+
+abbrev pub startOf : List ℕ → Start
+startOf b = lengthIn (b # 0) (frameOf b)

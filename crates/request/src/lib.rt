@@ -4,9 +4,11 @@ mod writing;
 
 ghost use mathlib.Core.Path.{_≡_};
 ghost use Rattle.request.specs.Kinds.{bodyLength};
+pub use reading::first;
 pub use reading::number_of;
 pub use reading::read;
 pub use reading::request_of;
+pub use reading::start_of;
 pub use writing::bytes_of;
 pub use writing::write;
 
@@ -130,6 +132,13 @@ pub enum Request {
 // What the first bytes of a string hold.
 pub enum Frame {
     Whole(Request),
+    Unknown,
+    Cut,
+}
+
+// The same without the fields: of a whole request the length of its body.
+pub enum Start {
+    Whole(u32),
     Unknown,
     Cut,
 }

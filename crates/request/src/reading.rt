@@ -2,9 +2,10 @@
 ghost use mathlib.Core.Path.{_≡_};
 ghost use mathlib.Core.List.{[], _∷_};
 ghost use Rattle.request.specs.Bytes.{_#_, pair, quad};
-ghost use Rattle.request.specs.Reading.{requestOf, frameOf};
+ghost use Rattle.request.specs.Reading.{requestOf, frameOf, startOf};
 use crate::Frame;
 use crate::Request;
+use crate::Start;
 use crate::UNKNOWN;
 use crate::body_length;
 use crate::wide;
@@ -150,23 +151,30 @@ pub fn request_of(
     }
 }
 
-// The request at the start of the bytes; those behind it are not read.
-pub fn read(bytes: &[u8]) -> Frame
-    ensures { λ r. ⌜ r ≡ frameOf (now (bytes .entry)) ⌝ }
+// How far the request at the start of the bytes reaches.
+pub fn start_of(bytes: &[u8]) -> Start
+    ensures { λ r. ⌜ r ≡ startOf (now (bytes .entry)) ⌝ }
 {
     if bytes.len() == 0 {
-        return Frame::Cut;
+        return Start::Cut;
     }
     let kind = bytes[0];
     let length = body_length(wide(kind));
     if length == UNKNOWN {
-        return Frame::Unknown;
+        return Start::Unknown;
     }
     if bytes.len() <= length as usize {
-        return Frame::Cut;
+        return Start::Cut;
     }
-    let request = request_of(
-        kind,
+    Start::Whole(length)
+}
+
+// The request that the first bytes spell, where they are a whole one; those behind it are not read.
+pub fn first(bytes: &[u8]) -> Request
+    ensures { λ r. ⌜ r ≡ requestOf (now (bytes .entry) # 0) (now (bytes .entry)) ⌝ }
+{
+    request_of(
+        byte_at(bytes, 0),
         byte_at(bytes, 1),
         byte_at(bytes, 2),
         byte_at(bytes, 3),
@@ -175,6 +183,20 @@ pub fn read(bytes: &[u8]) -> Frame
         byte_at(bytes, 6),
         byte_at(bytes, 7),
         byte_at(bytes, 8),
-    );
-    Frame::Whole(request)
+    )
+}
+
+// Both at once, for who asks for one request alone.
+pub fn read(bytes: &[u8]) -> Frame
+    ensures { λ r. ⌜ r ≡ frameOf (now (bytes .entry)) ⌝ }
+{
+    let start = start_of(bytes);
+    match start {
+        Start::Unknown => Frame::Unknown,
+        Start::Cut => Frame::Cut,
+        Start::Whole(_) => {
+            let request = first(bytes);
+            Frame::Whole(request)
+        }
+    }
 }

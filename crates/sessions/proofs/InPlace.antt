@@ -5,7 +5,7 @@ use mathlib.Core.List.{List, [], _∷_, _++_, map, append-assoc, append-nil}
 use native.Mathlib.Numerals.{add-one}
 use native.Mathlib.Nat.{add-zero, zero-add, add-suc, suc-add}
 use native.Mathlib.Omega.{arith}
-use lib.ListN.{length, take, drop, getD, set, drop-of-length-le}
+use lib.ListN.{length, take, drop, getD, set, length-append, take-append-drop, drop-of-length-le}
 use lib.Seq.{take-suc, drop-cons, set-at, getD-at, set-getD, length-take-le, take-all}
 use Rattle.records.specs.Lists.{mapFrom}
 use Rattle.records.specs.House.{House, withUsers, withScripts, withSessions, withDrafts}
@@ -50,6 +50,11 @@ module _ {A : Type 0} (f : ℕ → A → A) where
           zero-add,
           length-take-le i l (omega arith),
         )
+
+  pub done-length : (i : ℕ) (l : List A) → length (done i l) ≡ length l
+  done-length i l =
+      length-append (mapFrom 0 f (take i l)) (drop i l) ∙ ap (λ (n : ℕ). n + length (drop i l)) (length-mapFrom 0 (take i l))
+      ∙ sym (length-append (take i l) (drop i l)) ∙ ap length (take-append-drop i l)
 
   pub done-all : (i : ℕ) (l : List A) → length l ≤ i → done i l ≡ mapFrom 0 f l
   done-all i l h = rw (take-all i l h, drop-of-length-le l h, append-nil)

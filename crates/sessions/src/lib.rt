@@ -59,16 +59,20 @@ pub fn kill(records: &mut Cells, s: u8)
 fn uncovered(session: Session, w: u8, level: u8, categories: u16) -> bool
     ensures { λ r. ⌜ r ≡ uncovered w level categories session ⌝ }
 {
-    (session.owner == w) & !label::covers(level, categories, session.level, session.categories)
+    if session.owner != w {
+        return false;
+    }
+    !label::covers(level, categories, session.level, session.categories)
 }
 
+// What few sessions meet is asked first, so that most are passed at once.
 fn ends(session: Session, ending: Ending) -> bool
     ensures { λ r. ⌜ r ≡ ends ending session ⌝ }
 {
     match ending {
-        Ending::OfRoom { room } => session.writes & (session.place == room),
+        Ending::OfRoom { room } => (session.place == room) & session.writes,
         Ending::OfMember { w, room } => {
-            session.writes & (session.owner == w) & (session.place == room)
+            (session.owner == w) & session.writes & (session.place == room)
         }
         Ending::Uncovered {
             w,

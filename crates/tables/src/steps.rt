@@ -1,7 +1,6 @@
 // The steps of a scene: a change is made as a granted request makes it, and the tables are printed.
 ghost use Prim.Native.Nat.{_≤_};
 use crate::lines;
-use effects::Change;
 use libc::STDOUT_FILENO;
 use records::Cells;
 use request::Frame;
@@ -77,7 +76,7 @@ fn change(records: &mut Cells, kind: u8, body: u64, number: u32) {
         lines::say(b"no request\n");
         return;
     };
-    effects::apply(records, Change { request, number });
+    effects::apply(records, request, number);
 }
 
 // One change, which receives that draft number, 0 for none.

@@ -33,7 +33,8 @@ use Rattle.judge.proofs.Order.{grant-is-none}
 use Rattle.judge.proofs.Sound.{first-told}
 use Rattle.history.specs.Machine as machine
 use Rattle.history.specs.Machine.{Desk, step, takeBack, issued}
-use Rattle.history.specs.Desk.{verdictOf, changeOf, deskRules}
+use Rattle.effects.specs.Effects.{changeOf}
+use Rattle.history.specs.Desk.{verdictOf, deskRules}
 use Rattle.why.specs.Why.{afterLines, deskLines, reasonOf, reasonOfBytes}
 use Rattle.why.specs.Explained.{refusalOf, askedBy, TrueOf, of-records, no-number, no-change, Explained}
 

@@ -24,30 +24,26 @@ loop-holds c =
     let a = c .before .before .args in
     at-start (a .rule) (now (a .requests)) (now (a .answers)) (a .place) (shown (now (a .base)) (now (a .log)) (now (a .current)) (now (a .last)))
 
-cast-body-length : tie.Need-cast-body-length Inv-loop μ-loop
-cast-body-length c =
-    let head = c .before .before .before .before .before .before .before .before .before .before .before .before .before .before .before .before .before .before in
-    omega (arith, c .shared-slice-known2 .given (head .loop .used))
-
 add-at-3 : tie.Need-add-at-3 Inv-loop μ-loop
 add-at-3 c = omega (arith, at-most-five (c .before .before .before .before .take .result), c .before .before .put-answer3 .ensures .0)
 
--- a turn's way back from its end: to the request, and to the room for its answer
-abbrev with-frame : tie.After-body-length Inv-loop μ-loop → tie.After-frame Inv-loop μ-loop
-with-frame c = c .before .before .before .before .before .before .before .before .before .before .before .before
+-- a turn's way back from its end: to how the bytes begin, and to the room for the answer
+abbrev with-start : tie.After-slice-known4 Inv-loop μ-loop → tie.After-start Inv-loop μ-loop
+with-start c = c .before .before .before .before .before .before .before .before .before .before .before .before
 
-abbrev with-room : tie.After-body-length Inv-loop μ-loop → tie.Else2 Inv-loop μ-loop
-with-room c = with-frame c .before .before .before .before
+abbrev with-room : tie.After-slice-known4 Inv-loop μ-loop → tie.Else2 Inv-loop μ-loop
+with-room c = with-start c .before .before .before .before
 
 -- the request's bytes are all there
-all-there : (c : tie.After-body-length Inv-loop μ-loop)
-    → with-room c .before .before .before .loop .used + (1 + c .body-length .result) ≤ length (now (with-room c .before .before .before .before .before .before .args .requests))
+all-there : (c : tie.After-slice-known4 Inv-loop μ-loop)
+    → with-room c .before .before .before .loop .used + (1 + with-start c .start .given .0 .0) ≤ length (now (with-room c .before .before .before .before .before .before .args .requests))
 all-there c =
-    let frame = with-frame c in
-    let read = frame .before .before .read in
+    let start = with-start c in
+    let at = start .before .before .start-of in
+    let first = c .before .before .before .before .before .before .before .before .before .first in
     let room = with-room c in
     inside (room .before .before .before .loop .inv) (room .before .before .if1 .left) (room .before .room-left .result) (room .before .room-left .ensures)
-    (room .if2 .left) (read .result) (read .ensures) _ (frame .frame .given .1) (c .body-length .result) (c .body-length .ensures)
+    (room .if2 .left) (at .result) (at .ensures) _ (start .start .given .1) (first .result) (first .ensures)
 
 add-used : tie.Need-add-used Inv-loop μ-loop
 add-used c = omega (arith, all-there c)
@@ -60,13 +56,14 @@ loop-less c = omega (arith, all-there c)
 
 loop-again : tie.Need-loop-again Inv-loop μ-loop
 loop-again c =
-    let put = c .before .before .before .before .put-answer3 in
-    let take = c .before .before .before .before .before .before .take in
-    let frame = with-frame c in
-    let read = frame .before .before .read in
+    let put = c .before .before .put-answer3 in
+    let take = c .before .before .before .before .take in
+    let first = c .before .before .before .before .before .before .before .before .before .first in
+    let start = with-start c in
+    let at = start .before .before .start-of in
     let room = with-room c in
     next (room .before .before .before .loop .inv) (room .before .before .if1 .left) (room .before .room-left .result) (room .before .room-left .ensures)
-    (room .if2 .left) (read .result) (read .ensures) _ (frame .frame .given .1) (c .body-length .result) (c .body-length .ensures)
+    (room .if2 .left) (at .result) (at .ensures) _ (start .start .given .1) (first .result) (first .ensures)
     _ (take .result) (take .ensures) (put .result) (put .ensures .0) (put .last .0) (put .ensures .1)
 
 -- where the four ways out of the loop meet
@@ -103,8 +100,4 @@ returns c = as-returned (c .new .ensures) (ended (c .before .before) .0)
 pub run-spec : {M : Type 1} → statement M
 run-spec =
     tie.close
-    (tie.spec Inv-loop μ-loop loop-holds (λ c κs. search needs) (λ c. search needs) (λ c. search needs) (λ c. search needs) (λ c κs. search needs)
-    (λ c. search needs) (λ c. search needs) (λ c. search needs) (λ c. search needs) (λ c κs. search needs) (λ c. search needs) (λ c. search needs)
-    (λ c. search needs) (λ c. search needs) (λ c. search needs) (λ c κs. search needs) (λ c. search needs) (λ c. search needs) (λ c κs. search needs)
-    (λ c. search needs) (λ c. search needs) (λ c. search needs) (λ c κs. search needs) add-at-3 (λ c. search needs) cast-body-length
-    (λ c κs. search needs) (λ c. search needs) add-used add-used-2 loop-less loop-again sub-new (λ c κs. search needs) same-length returns)
+    (tie.spec Inv-loop μ-loop loop-holds (λ c κs. search needs) (λ c. search needs) (λ c. search needs) (λ c. search needs) (λ c κs. search needs) (λ c. search needs) (λ c. search needs) (λ c. search needs) (λ c. search needs) (λ c κs. search needs) (λ c. search needs) (λ c. search needs) (λ c. search needs) (λ c. search needs) (λ c. search needs) (λ c κs. search needs) (λ c. search needs) (λ c. search needs) (λ c. search needs) (λ c. search needs) (λ c. search needs) (λ c κs. search needs) (λ c κs. search needs) (λ c. search needs) (λ c. search needs) (λ c. search needs) (λ c κs. search needs) add-at-3 (λ c. search needs) add-used add-used-2 loop-less loop-again sub-new (λ c κs. search needs) same-length returns)

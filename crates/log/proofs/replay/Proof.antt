@@ -28,12 +28,12 @@ changes-holds c = (omega arith, refl)
 
 changes-again : tie.Need-changes-again Inv-changes μ-changes
 changes-again c =
-    let l = c .before .before .before .before .changes in
-    let k = c .before .before .before .before .before in
+    let l = c .before .before .before .changes in
+    let k = c .before .before .before .before in
     let a = k .before .before .args in
-    let t = c .before .before .before .changes-test .taken in
+    let t = c .before .before .changes-test .taken in
     let h : l .i < length (past (a .log .now)) = omega (arith, k .kept-count .ensures .0) in
-    (omega arith, rw (c .apply .ensures, c .before .before .change-at .ensures, l .inv .1) (one-more (view (a .base .now)) (past (a .log .now)) (l .i) h))
+    (omega arith, rw (c .redo .ensures, l .inv .1) (one-more (view (a .base .now)) (past (a .log .now)) (l .i) h))
 
 returns : tie.Need-returns Inv-changes μ-changes
 returns c =
@@ -46,5 +46,5 @@ returns c =
 pub replay-spec : {M : Type 1} → statement M
 replay-spec =
     tie.close
-    (tie.spec Inv-changes μ-changes (λ c κs. search needs) changes-holds (λ c κs. search needs) (λ c κs. search needs) (λ c. search needs)
+    (tie.spec Inv-changes μ-changes (λ c κs. search needs) changes-holds (λ c κs. search needs) (λ c. search needs)
     (λ c. search needs) changes-again returns)

@@ -13,13 +13,16 @@ use Rattle.effects.proofs.texts.sweep_drafts.Statement.{statement}
 use Rattle.effects.proofs.texts.sweep_drafts.Tie as tie
 
 abbrev Inv-drafts : tie.InvT-drafts
-Inv-drafts records₀ n₀ end i₀ records n i = (i ≤ end) × Sifted drafts (view records₀) placed i n (view records)
+Inv-drafts records₀ start n₀ end i₀ records n i = (i ≤ end) × Sifted drafts (view records₀) placed i n (view records)
 
 abbrev μ-drafts : tie.MeasureT-drafts
-μ-drafts records₀ n₀ end i₀ records n i = end - i
+μ-drafts records₀ start n₀ end i₀ records n i = end - i
 
 drafts-holds : tie.Need-drafts-holds Inv-drafts μ-drafts
-drafts-holds c = (omega arith, sift-start drafts _ _)
+drafts-holds c =
+    let f = c .before .before .placed-front .ensures in
+    let n = c .draft-count .ensures in
+    (omega arith, sift-start drafts _ _ _ (f .1))
 
 drafts-again : tie.Need-drafts-again Inv-drafts μ-drafts
 drafts-again c =
@@ -57,5 +60,5 @@ returns c =
 pub sweep-drafts-spec : {M : Type 1} → statement M
 sweep-drafts-spec =
     tie.close
-    (tie.spec Inv-drafts μ-drafts (λ c κs. search needs) drafts-holds (λ c κs. search needs) (λ c. search needs) (λ c. search needs) drafts-again
+    (tie.spec Inv-drafts μ-drafts (λ c κs. search needs) (λ c κs. search needs) drafts-holds (λ c κs. search needs) (λ c. search needs) (λ c. search needs) drafts-again
     (λ c κs. search needs) add-n (λ c. search needs) (λ c. search needs) drafts-again-2 (λ c κs. search needs) returns)
