@@ -18,6 +18,9 @@ use opening::Opening;
 use records::Cells;
 use records::Rule;
 
+// The five words of a desk_reason: its number, the record's kind and id, what it holds and what was wanted.
+pub type Words = [u32; 5];
+
 // Of the numbers that a desk_t may hold, damaged or zeroed, all but 2 stand for rule 1.
 fn rule_of(rule: u32) -> Rule
     ensures { λ r. ⌜ r ≡ heldRule rule ⌝ }
@@ -129,7 +132,7 @@ pub extern "C" fn desk_why_parts(
     last: u32,
     rule: u32,
     request: &[u8],
-    reason: &mut [u32; 5],
+    reason: &mut Words,
 ) -> u32
     ensures { λ r. ⌜ (r ≡ reasonOfBytes (heldRule rule) (view (now (current .entry))) last (length (past (now (log .entry)))) (now (request .entry)) .number) × (now (reason .exit) ≡ words (reasonOfBytes (heldRule rule) (view (now (current .entry))) last (length (past (now (log .entry)))) (now (request .entry)))) ⌝ }
 {
