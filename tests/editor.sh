@@ -14,21 +14,7 @@ stop() {
 
 CDPATH='' cd -- "$(dirname -- "$0")/.." || stop "cannot enter the repository"
 
-command -v rt >/dev/null || stop "the kit's command rt is not on the PATH"
-guide=$(rt doc) || stop "rt doc failed, so the kit is not found"
-machine=$(uname -m)
-own=${guide%/docs/*}/on/$machine
-tools=$own/toolchain
-loader=$tools/lib/ld-linux-x86-64.so.2
-# the programs are for x86-64
-case $machine in
-x86_64) emulator='' ;;
-aarch64) emulator=$tools/bin/qemu-x86_64 ;;
-*) stop "the kit has no tools for this machine, $machine" ;;
-esac
-for tool in "$tools/bin/clang" "$tools/bin/llvm-ar" "$own/bin/rattle-link" "$loader" $emulator; do
-    [ -x "$tool" ] || stop "the kit lacks $tool"
-done
+. tests/kit.sh
 
 rt staticlib editor || stop "rt staticlib editor failed"
 library=target/staticlib/libeditor.a
@@ -62,7 +48,7 @@ link() {
 }
 # Puts the sections of a file into $out/sections; `bytes KIND` is how many bytes of that kind they have.
 look() {
-    sh tests/sections.sh "$1" >"$out/sections" || stop "the sections of $1 were not read"
+    sh tests/elf.sh sections "$1" >"$out/sections" || stop "the sections of $1 were not read"
 }
 bytes() {
     awk -v kind="$1" '$1 == kind { sum += $2 } END { print sum + 0 }' "$out/sections"
@@ -74,7 +60,7 @@ status=0
 echo 'extern const unsigned char lengths[3]; const unsigned char lengths[3] = {255, 7, 2};' >"$out/table.c"
 clang -x c -std=c99 -O3 -fPIE -c "$out/table.c" -o "$out/table.o" || stop "$out/table.c was not compiled"
 look "$out/table.o"
-[ "$(bytes read-only)" -eq 3 ] || stop "tests/sections.sh does not see a table of 3 bytes"
+[ "$(bytes read-only)" -eq 3 ] || stop "tests/elf.sh does not see a table of 3 bytes"
 mkdir "$out/objects" || stop "cannot make $out/objects"
 (cd "$out/objects" && "$tools/bin/llvm-ar" x ../../staticlib/libeditor.a) || stop "$library was not taken apart"
 code=0 lengths=''
@@ -104,8 +90,6 @@ for call in words 'desk_body_length(words)'; do
     }
 done
 
-# an emulator's own settings would change the run
-for word in $(env | sed -n 's/^\(QEMU_[A-Za-z0-9_]*\)=.*/\1/p'); do unset "$word"; done
 for program in c cpp kinds; do
     link "$out/$program" "$out/$program.o" "$library"
     ${emulator:+"$emulator"} "$loader" --library-path "$tools/lib" "$out/$program" </dev/null || {

@@ -25,23 +25,7 @@ failed() {
 }
 
 # ---- what is needed
-command -v rt >/dev/null || stop "the kit's command rt is not on the PATH"
-guide=$(rt doc) || stop "rt doc failed, so the kit is not found"
-machine=$(uname -m)
-own=${guide%/docs/*}/on/$machine
-tools=$own/toolchain
-loader=$tools/lib/ld-linux-x86-64.so.2
-# the programs are for x86-64
-case $machine in
-x86_64) emulator='' ;;
-aarch64) emulator=$tools/bin/qemu-x86_64 ;;
-*) stop "the kit has no tools for this machine, $machine" ;;
-esac
-for tool in "$tools/bin/clang" "$tools/bin/llvm-ar" "$own/bin/rattle-link" "$loader" $emulator; do
-    [ -x "$tool" ] || stop "the kit lacks $tool"
-done
-# an emulator's own settings would change the run
-for word in $(env | sed -n 's/^\(QEMU_[A-Za-z0-9_]*\)=.*/\1/p'); do unset "$word"; done
+. tests/kit.sh
 
 library=${LIBRARY:-target/staticlib/libhouse.a}
 if [ -z "${LIBRARY:-}" ]; then rt staticlib house || stop "rt staticlib house failed"; fi
@@ -95,17 +79,17 @@ printf 'house: the header was compiled alone in %s ways\n' "$headers"
 # That these are seen is tried first.
 printf 'extern int counted; extern int zeroed; int counted = 7; int zeroed; void other(void); void calls(void); void calls(void) { other(); }\n' >"$out/seen.c"
 clang -x c -std=c99 -fPIE -c "$out/seen.c" -o "$out/seen.o" || stop "$out/seen.c was not compiled"
-sh tests/sections.sh "$out/seen.o" >"$out/sections" || stop "the sections of $out/seen.o were not read"
-[ "$(grep -c '^data 4 ' "$out/sections")" -eq 2 ] || stop "tests/sections.sh does not see data of 4 bytes twice"
-sh tests/symbols.sh "$out/seen.o" >"$out/symbols" || stop "the symbols of $out/seen.o were not read"
-[ "$(sort "$out/symbols" | tr '\n' ' ')" = 'defined calls defined counted defined zeroed undefined other ' ] || stop "tests/symbols.sh does not see four symbols"
+sh tests/elf.sh sections "$out/seen.o" >"$out/sections" || stop "the sections of $out/seen.o were not read"
+[ "$(grep -c '^data 4 ' "$out/sections")" -eq 2 ] || stop "tests/elf.sh does not see data of 4 bytes twice"
+sh tests/elf.sh symbols "$out/seen.o" >"$out/symbols" || stop "the symbols of $out/seen.o were not read"
+[ "$(sort "$out/symbols" | tr '\n' ' ')" = 'defined calls defined counted defined zeroed undefined other ' ] || stop "tests/elf.sh does not see four symbols"
 
 (cd "$out/objects" && "$tools/bin/llvm-ar" x "$library") || stop "$library was not taken apart"
 : >"$out/sections"
 : >"$out/symbols"
 for object in "$out/objects"/*; do
-    sh tests/sections.sh "$object" >>"$out/sections" || stop "the sections of $object were not read"
-    sh tests/symbols.sh "$object" >>"$out/symbols" || stop "the symbols of $object were not read"
+    sh tests/elf.sh sections "$object" >>"$out/sections" || stop "the sections of $object were not read"
+    sh tests/elf.sh symbols "$object" >>"$out/symbols" || stop "the symbols of $object were not read"
 done
 grep -q '^code ' "$out/sections" || stop "no code was found in $library"
 if grep '^data ' "$out/sections" >"$out/written"; then failed "the library has data that is written to: $(cat "$out/written")"; fi

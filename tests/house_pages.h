@@ -340,22 +340,6 @@ static inline uint32_t load_once(int apart, desk_t *desk, const uint8_t *image, 
     return number;
 }
 
-static inline uint32_t paged_load(desk_t *desk, const uint8_t *image, size_t length)
-{
-    static desk_t before, after;
-    uint32_t number = 0, last_number = 0;
-    int time;
-    calling = "desk_load";
-    memcpy(&before, desk, sizeof before);
-    for (time = 0; time < TIMES; time++, last_number = number) {
-        memcpy(&after, &before, sizeof after);
-        number = load_once(time == 2, &after, image, length);
-        same_again(time, number == last_number, &after, desk);
-        memcpy(desk, &after, sizeof after);
-    }
-    return number;
-}
-
 static inline uint32_t open_once(int apart, desk_t *desk, uint32_t last, uint32_t rule)
 {
     uint32_t number;
@@ -370,20 +354,31 @@ static inline uint32_t open_once(int apart, desk_t *desk, uint32_t last, uint32_
     return number;
 }
 
-static inline uint32_t paged_open(desk_t *desk, uint32_t last, uint32_t rule)
+/* A desk that starts anew, from an image or, where there is none, without records. */
+static inline uint32_t start(const char *name, desk_t *desk, const uint8_t *image, size_t length, uint32_t last, uint32_t rule)
 {
     static desk_t before, after;
     uint32_t number = 0, last_number = 0;
     int time;
-    calling = "desk_open";
+    calling = name;
     memcpy(&before, desk, sizeof before);
     for (time = 0; time < TIMES; time++, last_number = number) {
         memcpy(&after, &before, sizeof after);
-        number = open_once(time == 2, &after, last, rule);
+        number = image ? load_once(time == 2, &after, image, length) : open_once(time == 2, &after, last, rule);
         same_again(time, number == last_number, &after, desk);
         memcpy(desk, &after, sizeof after);
     }
     return number;
+}
+
+static inline uint32_t paged_load(desk_t *desk, const uint8_t *image, size_t length)
+{
+    return start("desk_load", desk, image, length, 0, 0);
+}
+
+static inline uint32_t paged_open(desk_t *desk, uint32_t last, uint32_t rule)
+{
+    return start("desk_open", desk, NULL, 0, last, rule);
 }
 
 /* ---- The three that read a desk and answer with one number; of these only desk_kept reads bytes of a part, the log */

@@ -77,13 +77,7 @@ fi
 warnings='-Wall -Wextra -pedantic -Wconversion -Wsign-conversion -Werror'
 if [ "$by" = kit ]; then
     echo "install.sh: not run here: README.md's commands for C, which want cc, pkg-config and x86-64; the kit's clang builds the programs"
-    command -v rt >/dev/null || stop "the kit's command rt is not on the PATH"
-    guide=$(rt doc) || stop "rt doc failed, so the kit is not found"
-    own=${guide%/docs/*}/on/$(uname -m)
-    tools=$own/toolchain
-    emulator=
-    [ "$(uname -m)" = x86_64 ] || emulator=$tools/bin/qemu-x86_64
-    for name in $(env | sed -n 's/^\(QEMU_[A-Za-z0-9_]*\)=.*/\1/p'); do unset "$name"; done
+    . tests/kit.sh
 fi
 compile() { # LANGUAGE STANDARD SOURCE PROGRAM
     if [ "$by" = cc ]; then
@@ -96,7 +90,7 @@ compile() { # LANGUAGE STANDARD SOURCE PROGRAM
     fi || stop "$3 was not built as $2"
 }
 run() { # PROGRAM [WORD ..]
-    if [ "$by" = cc ]; then "$@"; else ${emulator:+"$emulator"} "$tools/lib/ld-linux-x86-64.so.2" --library-path "$tools/lib" "$@"; fi
+    if [ "$by" = cc ]; then "$@"; else ${emulator:+"$emulator"} "$loader" --library-path "$tools/lib" "$@"; fi
 }
 
 # ---- README.md's path
