@@ -1,4 +1,6 @@
 // The words behind the program's name, taken one at a time.
+#![tactic(auto)]
+
 mod numbers;
 
 ghost use Rattle.std.specs.Prelude.{◌≡◌};
@@ -9,7 +11,7 @@ ghost use Rattle.arguments.specs.Numbers.{given as Numbers·given, number_or};
 use numbers::number_of;
 
 // What the next word is: an argument, or the value of the one before it.
-#[derive(Drop)]
+#[derive(Clone, Copy)]
 pub enum Next {
     Argument,
     Last,
@@ -19,14 +21,14 @@ pub enum Next {
 }
 
 // The value of an argument that has a number, where it was given.
-#[derive(Drop)]
+#[derive(Clone, Copy)]
 pub enum Number {
     Is(u32),
     Nothing,
 }
 
 // Whether a word was wrong; and what was asked for. Of a file the place of its name among the words is kept, 0 where there is none.
-#[derive(Drop)]
+#[derive(Clone, Copy)]
 pub struct Arguments {
     pub usage: bool,
     pub next: Next,
@@ -69,7 +71,7 @@ fn same(a: &[u8], b: &[u8]) -> bool
 }
 
 // The arguments by name.
-#[derive(Drop)]
+#[derive(Clone, Copy)]
 enum Word {
     Why,
     Last,

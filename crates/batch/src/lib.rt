@@ -1,15 +1,17 @@
 // A batch: request bytes in, answer bytes out, and the stop that ended it.
+#![tactic(auto)]
+
 ghost use Rattle.std.specs.Prelude.{◌≡◌, ◌++◌, ◌-◌, ◌≤◌, length, drop};
 ghost use Rattle.history.specs.Desk.{shown, answer_bytes};
 ghost use Rattle.batch.specs.Batch.{stop_number, returned, Batched};
 
 use history::{Answer, Desk};
-use log::Log;
+use kept::Log;
 use records::{Cells, Rule};
 use request::Start;
 
 // Why a batch ended: no bytes left, no answer room, an unknown kind, a cut body.
-#[derive(Drop)]
+#[derive(Clone, Copy)]
 pub enum Stop {
     End,
     NoRoom,
@@ -18,7 +20,7 @@ pub enum Stop {
 }
 
 // The stop, the request bytes used and the answer bytes written.
-#[derive(Drop)]
+#[derive(Clone, Copy)]
 pub struct Ran {
     pub stop: Stop,
     pub used: usize,
@@ -38,7 +40,7 @@ impl Ran {
 }
 
 // The desk after a batch, and what the batch returned.
-#[derive(Drop)]
+#[derive(Clone, Copy)]
 pub struct RanDesk {
     pub desk: Desk,
     pub ran: Ran,

@@ -1,4 +1,6 @@
 // The facts that 01's refusal table asks of the records. The judge asks them in their order, after those of a request's own fields.
+#![tactic(auto)]
+
 ghost use Rattle.std.specs.Prelude.{◌≡◌};
 ghost use Rattle.records.specs.House.{view, user, script, session, draft_at};
 ghost use Rattle.conditions.specs.Conditions.{no_users, leads, is_staff, is_freelancer, may_kill, is_in, is_at, is_seated, of_origin, sees, seen, session_label, script_label, opening, reading, updating, importing, draft_room};

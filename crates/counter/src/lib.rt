@@ -1,20 +1,22 @@
 // The counter of draft numbers: lent to whoever issues a number, and stepped there. It never goes back.
+#![tactic(auto)]
+
 ghost use Rattle.std.specs.Prelude.{◌≡◌};
 ghost use Rattle.counter.specs.Numbers.{next_after, last_after};
 
 // The last number issued.
-#[derive(Drop)]
+#[derive(Clone, Copy)]
 pub struct Counter {
     pub last: u32,
 }
 
-#[derive(Drop)]
+#[derive(Clone, Copy)]
 pub enum Next {
     Number(u32),
     Spent,
 }
 
-#[derive(Drop)]
+#[derive(Clone, Copy)]
 pub struct Issued {
     pub next: Next,
     pub last: u32,

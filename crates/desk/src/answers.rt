@@ -1,7 +1,7 @@
 // The requests of a piece of the input, answered one after the other, with their lines collected in a buffer.
 ghost use Rattle.std.specs.Prelude.{◌≡◌, cond, ◌+◌, ◌*◌, ◌^◌, ◌<◌, ◌≤◌, length};
 ghost use Rattle.request.specs.Kinds.{body_length};
-ghost use Rattle.log.specs.Log.{past};
+ghost use Rattle.kept.specs.Log.{past};
 ghost use Rattle.history.specs.Desk.{shown};
 ghost use Rattle.reasons.specs.Reasons.{zeros};
 ghost use Rattle.why.specs.Why.{reason_after};
@@ -11,13 +11,13 @@ ghost use Rattle.desk.specs.Steps.{so_far, one_of, Made};
 use crate::lines::line;
 use history::Answer;
 use judge::Ruling;
-use log::Log;
+use kept::Log;
 use reasons::Reason;
 use records::{Cells, Rule};
 use request::Frame;
 
 // The ordinal of the next line, the request bytes used, where the lines collected end, and whether more is to be read.
-#[derive(Drop)]
+#[derive(Clone, Copy)]
 pub(crate) struct Progress {
     pub ordinal: u64,
     pub used: usize,
@@ -49,7 +49,7 @@ fn reason_of(why: bool, log: &Log, last: u32, ruling: Ruling) -> Reason
     if !why {
         return reasons::bare(0);
     }
-    let kept = log::kept_count(log) as u32;
+    let kept = kept::kept_count(log) as u32;
     why::of_ruling(ruling, last, kept)
 }
 

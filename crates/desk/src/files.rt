@@ -41,7 +41,7 @@ fn put_name(word: usize, text: &mut [u8]) -> usize
 }
 
 // How many bytes were read; or it failed, which is reported.
-#[derive(Drop)]
+#[derive(Clone, Copy)]
 pub(crate) enum Got {
     Bytes(usize),
     Failed,

@@ -1,4 +1,6 @@
 // The program: opens a desk, reads requests from standard input to its end, prints a line for each answer, and saves the desk where that is asked for.
+#![tactic(auto)]
+
 mod answers;
 mod files;
 mod lines;
@@ -19,7 +21,7 @@ use files::Got;
 use history::Answer;
 use image::Written;
 use libc::{STDERR_FILENO, STDIN_FILENO, STDOUT_FILENO};
-use log::Log;
+use kept::Log;
 use opening::{Opened, Opening};
 use records::{Cells, Rule};
 

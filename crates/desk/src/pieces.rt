@@ -4,11 +4,11 @@ ghost use Rattle.history.specs.Desk.{shown};
 ghost use Rattle.desk.specs.Turns.{stand, turn, TurnIs};
 
 use crate::answers::answer_all;
-use log::Log;
+use kept::Log;
 use records::{Cells, Rule};
 
 // The ordinal of the next line, how many bytes wait, how many bytes the text has, and whether more is to be read.
-#[derive(Drop)]
+#[derive(Clone, Copy)]
 pub(crate) struct Turn {
     pub ordinal: u64,
     pub have: usize,

@@ -1,10 +1,12 @@
 // Any batch, run and compared. Standard input has a line a case, `NAME LAST ROOM PLACE REQUESTS`: a desk is opened with the last number LAST, under rule 1, or
 // where LAST is `N/R` with the last number N under the rule of number R; or it goes on as the case before left it where that is `+`; ROOM bytes of answer room, each ee; the place the answers start at; the requests in hex, with `_` between them.
 // The line written has the name, the stop, the request bytes used, the answer bytes written, the last number then, and every byte of the answer room.
+#![tactic(auto)]
+
 ghost use Rattle.std.specs.Prelude.{◌<◌, ◌≤◌, length};
 
 use libc::{STDIN_FILENO, STDOUT_FILENO};
-use log::Log;
+use kept::Log;
 use records::{Cells, Rule};
 
 // ---- what is written

@@ -1,4 +1,6 @@
 // What the caption editor calls from C: dominance, join and body length, on 32-bit numbers. include/desk.h declares the three.
+#![tactic(auto)]
+
 ghost use Rattle.std.specs.Prelude.{◌≡◌};
 ghost use Rattle.editor.specs.Answers.{dominance_answer, join_answer, body_length_answer};
 

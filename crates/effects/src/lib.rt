@@ -1,4 +1,6 @@
 // The effect of each granted request on the records: one function a kind of effect, and `apply` over all kinds.
+#![tactic(auto)]
+
 mod people;
 mod texts;
 
@@ -12,7 +14,7 @@ use request::Request;
 pub use texts::{add_place, create, new_draft, remove_place, update};
 
 // A granted request with the draft number that it received, 0 where it received none. This is all that is kept of a grant.
-#[derive(Drop)]
+#[derive(Clone, Copy)]
 pub struct Change {
     pub request: Request,
     pub number: u32,

@@ -1,4 +1,6 @@
 // The facts that 01's refusal table asks of a request's own fields.
+#![tactic(auto)]
+
 ghost use Rattle.std.specs.Prelude.{◌≡◌};
 ghost use Rattle.fields.specs.Fields.{is_id, to_sixteen, from_one, is_level, is_sort, is_yes_no, is_plain, is_first};
 

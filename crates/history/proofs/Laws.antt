@@ -12,7 +12,7 @@ use Rattle.records.specs.House.{House}
 use Rattle.records.specs.declared.Rule.{Rule}
 use Rattle.effects.specs.Effects.{applied}
 use Rattle.effects.specs.declared.Change.{Change}
-use Rattle.log.specs.Log.{pushed}
+use Rattle.kept.specs.Log.{pushed}
 use Rattle.counter.specs.Numbers.{top, next_after, last_after}
 use Rattle.counter.specs.declared.Next.TheVariants.{Number, Spent}
 use Rattle.judge.specs.Kinds.{ruling_of}

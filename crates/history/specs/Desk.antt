@@ -7,7 +7,7 @@ use Rattle.records.specs.House.{House, empty_house, view}
 use Rattle.records.specs.declared.Rule.{Rule}
 use Rattle.effects.specs.Effects.{change_of, applied}
 use Rattle.effects.specs.declared.Change.{Change}
-use Rattle.log.specs.Log.{past}
+use Rattle.kept.specs.Log.{past}
 use Rattle.judge.specs.Kinds.{ruling_of}
 use Rattle.judge.specs.declared.Ruling.{Ruling}
 use Rattle.judge.specs.declared.Ruling.TheVariants.{Refused, Pass, Keep, KeepNumbered, TakeBack}

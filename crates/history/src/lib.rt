@@ -1,7 +1,9 @@
 // The desk: its records, its kept changes, and one request after the other.
+#![tactic(auto)]
+
 ghost use Rattle.std.specs.Prelude.{◌≡◌, ℕ};
 ghost use Rattle.records.specs.House.{view, empty_house};
-ghost use Rattle.log.specs.Log.{past};
+ghost use Rattle.kept.specs.Log.{past};
 ghost use Rattle.history.specs.Machine.{opened, outcome, keep_change, take_back, issued, ruled, step};
 ghost use Rattle.effects.specs.Effects.{change_of};
 ghost use Rattle.history.specs.Desk.{shown, desk_rules, opens, opened_under, verdict_of, settled, answer_byte};
@@ -10,7 +12,7 @@ ghost use Rattle.counter.specs.Numbers.{next_after};
 use counter::Next;
 use effects::Change;
 use judge::Ruling;
-use log::Log;
+use kept::Log;
 use records::{Cells, Rule};
 use request::Request;
 
@@ -24,7 +26,7 @@ pub struct Desk {
     pub rule: Rule,
 }
 
-#[derive(Drop)]
+#[derive(Clone, Copy)]
 pub enum Answer {
     Granted,
     Numbered(u32),
@@ -79,10 +81,10 @@ pub fn open(last: u32, rule: u32) -> Opened
 fn settle(base: &mut Cells, log: &Log)
     ensures { view base.new ≡ settled (view base.old) (past log.now) }
 {
-    if log::kept_count(log) < 32 {
+    if kept::kept_count(log) < 32 {
         return;
     }
-    log::redo(base, log, 0);
+    kept::redo(base, log, 0);
 }
 
 fn make(base: &mut Cells, log: &mut Log, current: &mut Cells, request: Request, number: u32)
@@ -90,7 +92,7 @@ fn make(base: &mut Cells, log: &mut Log, current: &mut Cells, request: Request, 
 {
     effects::apply(current, request, number);
     settle(base, log);
-    log::push(log, Change { request, number });
+    kept::push(log, Change { request, number });
 }
 
 // The counter is stepped only where a number is left, and it never goes back.
@@ -116,11 +118,11 @@ fn make_numbered(
 fn take_back(base: &Cells, log: &mut Log, current: &mut Cells) -> Answer
     ensures { (rule : Rule) (last : ℕ) → outcome (shown base.now log.new current.new last) result ≡ take_back (desk_rules rule) (shown base.now log.old current.old last) }
 {
-    if log::kept_count(log) == 0 {
+    if kept::kept_count(log) == 0 {
         return Answer::Refused(12);
     }
-    log::pop(log);
-    log::replay(base, log, current);
+    kept::pop(log);
+    kept::replay(base, log, current);
     Answer::Granted
 }
 

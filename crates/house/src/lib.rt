@@ -1,7 +1,9 @@
 // What caption software calls from C: a desk whose parts the caller owns and lends. include/house.h has the same calls on a desk_t, and the three of the crate editor.
+#![tactic(auto)]
+
 ghost use Rattle.std.specs.Prelude.{◌≡◌, length};
 ghost use Rattle.records.specs.House.{view};
-ghost use Rattle.log.specs.Log.{past};
+ghost use Rattle.kept.specs.Log.{past};
 ghost use Rattle.history.specs.Desk.{shown, opened_under};
 ghost use Rattle.editor.specs.Answers.{dominance_answer, join_answer, body_length_answer};
 ghost use Rattle.image.specs.Image.{image_of};
@@ -13,7 +15,7 @@ ghost use Rattle.house.specs.Calls.{held_rule, rule_number, left, as_opened, as_
 
 use history::Answer;
 use image::Written;
-use log::Log;
+use kept::Log;
 use opening::Opening;
 use records::{Cells, Rule};
 
@@ -135,7 +137,7 @@ pub extern "C" fn desk_why_parts(
 ) -> u32
     ensures { (result ≡ (reason_of_bytes (held_rule rule) (view current.now) last (length (past log.now)) request.now).number) × (reason.new ≡ words (reason_of_bytes (held_rule rule) (view current.now) last (length (past log.now)) request.now)) }
 {
-    let kept = log::kept_count(log) as u32;
+    let kept = kept::kept_count(log) as u32;
     let held = rule_of(rule);
     let told = why::explain_bytes(current, held, last, kept, request);
     let number = told.number as u32;
@@ -181,7 +183,7 @@ pub extern "C" fn desk_load_parts(
 pub extern "C" fn desk_kept_parts(log: &Log) -> u32
     ensures { result ≡ length (past log.now) }
 {
-    log::kept_count(log) as u32
+    kept::kept_count(log) as u32
 }
 
 #[unsafe(no_mangle)]

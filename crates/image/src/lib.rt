@@ -1,4 +1,6 @@
 // The image of a desk: its records, last number and rule as bytes, written into a lent buffer.
+#![tactic(auto)]
+
 mod kinds;
 mod laying;
 
@@ -11,7 +13,7 @@ use laying::lay;
 use records::{Cells, Rule};
 
 // How many bytes the image has, which now stand at the start of the buffer; or refused: 14, the buffer is too small, and as it was.
-#[derive(Drop)]
+#[derive(Clone, Copy)]
 pub enum Written {
     Bytes(usize),
     Refused(u8),

@@ -1,4 +1,6 @@
 // The judge: for each kind of request the grant, or the first condition that fails with its reason. It reads the records and changes nothing.
+#![tactic(auto)]
+
 mod people;
 mod sessions;
 mod texts;
@@ -18,7 +20,7 @@ use sessions::{create, kill, open_in_house, open_in_room, open_read_only, read, 
 use texts::{add, import, merge, remove};
 
 // What the judge says of a request. Whoever keeps the changes still asks the counter for a number (refusal 11), and whether there is a change to take back (refusal 12).
-#[derive(Drop)]
+#[derive(Clone, Copy)]
 pub enum Ruling {
     Refused(Reason),
     // granted, and nothing changes

@@ -1,9 +1,11 @@
 // Labels: what fails where one is to dominate another, the join of two, and a label as a 32-bit number.
+#![tactic(auto)]
+
 ghost use Rattle.std.specs.Prelude.{◌≡◌};
 ghost use Rattle.label.specs.Labels.{nothing, dominates, covers, differs, join, pack, unpack};
 
 // High is SysHigh and Low is SysLow. The fields can hold more than a good label does: dominance, join and packing take whatever they hold.
-#[derive(Drop)]
+#[derive(Clone, Copy)]
 pub enum Label {
     High,
     Low,
@@ -15,7 +17,7 @@ pub enum Label {
 }
 
 // Parts of a label: those that fail where one label is to dominate another, or those in which two labels differ.
-#[derive(Drop)]
+#[derive(Clone, Copy)]
 pub struct Parts {
     pub level: bool,
     pub categories: bool,
@@ -23,7 +25,7 @@ pub struct Parts {
 }
 
 // The answer of unpacking: not every number is a label's.
-#[derive(Drop)]
+#[derive(Clone, Copy)]
 pub enum Unpacked {
     Good(Label),
     Bad,
@@ -150,6 +152,7 @@ impl Label {
     }
 
     // The ends come first, because their place bytes are over 16.
+    #[tactic(auto, unfolding(crate::specs::Labels::unpack))]
     pub fn unpack(number: u32) -> Unpacked
         ensures { result ≡ unpack number }
     {

@@ -1,4 +1,6 @@
 // Who leads a room: a lead is made, a lead is ended, the leads are counted.
+#![tactic(auto)]
+
 ghost use Rattle.std.specs.Prelude.{◌≡◌};
 ghost use Rattle.records.specs.House.{view, user, put_user};
 ghost use Rattle.leads.specs.Leads.{leading, lead_ended, lead_count};

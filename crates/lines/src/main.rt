@@ -1,6 +1,8 @@
 // Both sides of each line of 01's refusal table, for each kind and each refusal of the judge. Standard input has a line a case: a letter for the house,
 // which is a capital where the desk is under rule 2, the request in hex with its fields apart, and a word. The line written for it has the kind, the word and
 // the ruling: C0 and n added, refused with n; 80, granted; 81, granted with a number; 20, a change may be taken back.
+#![tactic(auto)]
+
 ghost use Rattle.std.specs.Prelude.{◌<◌};
 
 use judge::Ruling;
@@ -169,7 +171,7 @@ fn house(letter: u8) -> Cells {
 }
 
 // ---- a case
-#[derive(Drop)]
+#[derive(Clone, Copy)]
 struct Case {
     // 0 the house's letter, 1 the request, 2 the word
     part: u8,

@@ -1,4 +1,6 @@
 // Opening an image: what the reader took in is held to the record rules, written again and compared with the image.
+#![tactic(auto)]
+
 ghost use Rattle.std.specs.Prelude.{◌≡◌};
 ghost use Rattle.records.specs.House.{view};
 ghost use Rattle.reader.specs.Reading.{saved};
@@ -8,19 +10,19 @@ ghost use Rattle.opening.specs.Opening.{opens, refused, same_bytes, opened_by};
 ghost use Rattle.opening.specs.Desks.{opens_desk, desk_by};
 
 use image::Written;
-use log::Log;
+use kept::Log;
 use reader::Walk;
 use records::{Cells, Rule};
 
 // Refused: 14, no bytes or an end inside a body; 15, not an image.
-#[derive(Drop)]
+#[derive(Clone, Copy)]
 pub enum Opening {
     Opened,
     Refused(u8),
 }
 
 // The rule is the image's; of a refused one it is rule 1.
-#[derive(Drop)]
+#[derive(Clone, Copy)]
 pub struct Opened {
     pub answer: Opening,
     pub rule: Rule,
@@ -105,6 +107,6 @@ pub fn open_desk(
     let opened = open(image, current, last);
     let records = *current;
     *base = records;
-    log::clear(log);
+    kept::clear(log);
     opened
 }

@@ -9,7 +9,7 @@ use Rattle.request.proofs.Absurd.{differ}
 use Rattle.records.specs.House.{House}
 use Rattle.records.specs.declared.Rule.{Rule}
 use Rattle.effects.specs.declared.Change.{Change}
-use Rattle.log.specs.Log.{pushed, popped}
+use Rattle.kept.specs.Log.{pushed, popped}
 use Rattle.judge.specs.Kinds.{grant_of}
 use Rattle.judge.specs.declared.Ruling.{Ruling}
 use Rattle.judge.specs.declared.Ruling.TheVariants.{Pass, Keep, KeepNumbered}

@@ -17,7 +17,7 @@ use Rattle.counter.specs.Numbers.{next_after, last_after}
 use Rattle.counter.specs.declared.Counter.{Counter}
 use Rattle.counter.specs.declared.Issued.{Issued}
 use Rattle.counter.specs.declared.Next.{Next}
-use Rattle.log.specs.Log.{past}
+use Rattle.kept.specs.Log.{past}
 use Rattle.judge.specs.declared.Ruling.{Ruling}
 use Rattle.history.specs.Machine.{Outcome, outcome, ruled, step}
 use Rattle.history.specs.Desk as history
@@ -43,7 +43,7 @@ shown_of d = shown d.base d.log d.current d.last
 pub one_draft_count : (records : List ℕ) (r s : ℕ) → (r ≡ length (view records).drafts) × (r ≤ 256) → (s ≡ length (view records).drafts) × (s ≤ 256) → r ≡ s
 one_draft_count records r s p q = determined p.0 q.0
 
--- two results of log::kept_count: one_kept_count
+-- two results of kept::kept_count: one_kept_count
 pub one_kept_count : (log : List ℕ) (r s : ℕ) → (r ≡ length (past log)) × (r ≤ 32) → (s ≡ length (past log)) × (s ≤ 32) → r ≡ s
 one_kept_count log r s p q = determined p.0 q.0
 

@@ -6,7 +6,7 @@ use Rattle.request.specs.declared.Request.TheVariants.{Read, TakeBack}
 use Rattle.records.specs.House.{House}
 use Rattle.records.specs.declared.Rule.{Rule}
 use Rattle.effects.specs.declared.Change.{Change}
-use Rattle.log.specs.Log.{popped}
+use Rattle.kept.specs.Log.{popped}
 use Rattle.history.specs.declared.Answer.{Answer}
 use Rattle.history.specs.declared.Answer.TheVariants.{Granted, Numbered, Refused}
 use Rattle.history.specs.Machine.{Rulebook, Desk, Outcome, changed, step, run, answers}

@@ -1,4 +1,6 @@
 // The desk's requests: their kinds and the lengths of their bodies; `reading` takes one off its bytes, `writing` makes its bytes.
+#![tactic(auto)]
+
 mod reading;
 mod writing;
 
@@ -9,7 +11,7 @@ pub use reading::{first, number_of, read, request_of, start_of};
 pub use writing::{bytes_of, write};
 
 // One variant a kind; the fields stand in the order of their bytes.
-#[derive(Drop)]
+#[derive(Clone, Copy)]
 pub enum Request {
     Enrol {
         u: u8,
@@ -127,7 +129,7 @@ pub enum Request {
 }
 
 // What the first bytes of a string hold.
-#[derive(Drop)]
+#[derive(Clone, Copy)]
 pub enum Frame {
     Whole(Request),
     Unknown,
@@ -135,7 +137,7 @@ pub enum Frame {
 }
 
 // The same without the fields: of a whole request the length of its body.
-#[derive(Drop)]
+#[derive(Clone, Copy)]
 pub enum Start {
     Whole(u32),
     Unknown,
@@ -143,7 +145,7 @@ pub enum Start {
 }
 
 // Four bytes, the most significant first.
-#[derive(Drop)]
+#[derive(Clone, Copy)]
 pub struct Quad {
     pub a: u8,
     pub b: u8,

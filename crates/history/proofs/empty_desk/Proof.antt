@@ -1,6 +1,6 @@
 -- `empty_desk` meets its contract: zeros show no records and no change.
 use Rattle.records.proofs.Views.{view_zeros}
-use Rattle.log.proofs.Ring.{past_zeros}
+use Rattle.kept.proofs.Ring.{past_zeros}
 use Rattle.history.specs.Desk.{opens}
 use Rattle.history.proofs.empty_desk.Statement.{statement}
 use Rattle.history.proofs.empty_desk.Tie as tie

@@ -2,7 +2,7 @@
 use borrow.Author.Rules.{rules}
 use Rattle.records.specs.House.{view}
 use Rattle.effects.specs.Effects.{change_of}
-use Rattle.log.specs.Log.{past}
+use Rattle.kept.specs.Log.{past}
 use Rattle.history.proofs.Laws.{kept_is}
 use Rattle.history.proofs.make.Statement.{statement}
 use Rattle.history.proofs.make.Tie as tie

@@ -6,7 +6,7 @@ use Prim.Native.Nat.{◌≤◌, ◌<◌}
 use mathlib.Core.Path.{◌∙◌}
 use lib.ListN.{length}
 use Rattle.records.specs.House.{view}
-use Rattle.log.specs.Log.{past, no_change}
+use Rattle.kept.specs.Log.{past, no_change}
 use Rattle.history.proofs.Laws.{first_one}
 use Rattle.history.proofs.settle.Statement.{statement}
 use Rattle.history.proofs.settle.Tie as tie

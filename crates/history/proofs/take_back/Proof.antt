@@ -3,7 +3,7 @@ use borrow.Author.Rules.{rules}
 use borrow.Author.Tests.{eq-eqb, ne_eqb}
 use mathlib.Core.Path.{sym, ◌∙◌}
 use lib.ListN.{length}
-use Rattle.log.specs.Log.{past}
+use Rattle.kept.specs.Log.{past}
 use Rattle.history.specs.Machine.{take_back}
 use Rattle.history.proofs.take_back.Statement.{statement}
 use Rattle.history.proofs.take_back.Tie as tie
