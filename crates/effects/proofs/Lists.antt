@@ -1,7 +1,7 @@
 -- What two shapes of loop have done to a list after i turns: a filter by moving up, a search.
 use Prim.Native.Nat.{ℕ, suc, ◌+◌, ◌≤◌, ◌<◌}
 use mathlib.Core.Path.{◌≡◌, refl, sym, ap, ◌∙◌}
-use mathlib.Core.Bool.{Bool, true, false, cond, ◌||◌, or_false, or_comm}
+use mathlib.Core.Bool.{Bool, true, false, cond, ◌||◌, or-false, or_comm}
 use mathlib.Core.List.{List, [], ◌∷◌, ◌++◌, append-nil}
 use native.Mathlib.Numerals.{add-one}
 use native.Mathlib.Nat.{add-zero}
@@ -95,4 +95,4 @@ module _ {A : Type 0} (key : A → ℕ) (n : ℕ) (l : List A) where
         go k false q is = rw (get_or-set_other m x k true false (λ z. eqb-false x k q (sym z))) (rw q at is)
 
   pub marked_all : (i : ℕ) (m : List Bool) → length l ≤ i → Marked key n l i m → (k : ℕ) → k < n → get_or m k false ≡ any (λ x. eqb (key x) k) l
-  marked_all i m h done k b = sym (or_false (get_or m k false)) ∙ (rw (drop_of_length-le l h) at (done.marks k b))
+  marked_all i m h done k b = sym (or-false (get_or m k false)) ∙ (rw (drop_of_length-le l h) at (done.marks k b))

@@ -1,1 +1,3 @@
 // No code: what holds of every desk reached from an opening.
+#![tactic(auto)]
+

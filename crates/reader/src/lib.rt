@@ -1,4 +1,6 @@
 // The reader of images: it walks the frames and takes each record in as it comes.
+#![tactic(auto)]
+
 mod bodies;
 
 ghost use Rattle.std.specs.Prelude.{◌≡◌};
@@ -9,14 +11,14 @@ use bodies::{byte_at, draft_of, quad_at, script_of, session_of, user_of};
 use records::{Cells, Rule};
 
 // How long the body of a kind is.
-#[derive(Drop)]
+#[derive(Clone, Copy)]
 pub enum Length {
     Known(usize),
     Unknown,
 }
 
 // How a walk over the frames ends.
-#[derive(Drop)]
+#[derive(Clone, Copy)]
 pub enum Walk {
     Whole,
     Unknown,
@@ -24,7 +26,7 @@ pub enum Walk {
 }
 
 // How it ended, and the rule that it took in by then.
-#[derive(Drop)]
+#[derive(Clone, Copy)]
 pub struct Walked {
     pub walk: Walk,
     pub rule: Rule,

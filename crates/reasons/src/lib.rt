@@ -1,4 +1,6 @@
 // Conditions asked in order, each with the reason that it gives where it fails: one function a condition. They read the records and change nothing.
+#![tactic(auto)]
+
 mod numbers;
 mod people;
 mod sessions;
@@ -16,7 +18,7 @@ use label::Parts;
 pub use shared::{draft_asked, draft_led};
 
 // The refusal's number, the kind and id of the record that decided (0 and 0 where none did), the value that it holds, the value wanted.
-#[derive(Drop)]
+#[derive(Clone, Copy)]
 pub struct Reason {
     pub number: u8,
     pub kind: u8,
@@ -26,14 +28,14 @@ pub struct Reason {
 }
 
 // All that was asked holds, or the first that fails has this reason.
-#[derive(Drop)]
+#[derive(Clone, Copy)]
 pub enum Asked {
     Holds,
     Fails(Reason),
 }
 
 // A draft by its place among the live ones, which is the place asked for where all that was asked holds.
-#[derive(Drop)]
+#[derive(Clone, Copy)]
 pub struct Reached {
     pub asked: Asked,
     pub at: usize,

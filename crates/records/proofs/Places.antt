@@ -1,7 +1,7 @@
 -- Sets of places: which places a set has, and what one place more, one place less and a set that contains another are by that.
 use Prim.Native.Nat.{ℕ, zero, suc, ◌+◌, ◌-◌, ◌*◌, ◌/◌, ◌%◌, ◌^◌, ◌≤◌, ◌<◌, min, max}
 use mathlib.Core.Path.{◌≡◌, refl, sym, ap, ◌∙◌}
-use mathlib.Core.Bool.{Bool, true, false, cond, not, ◌&&◌, ◌||◌, or_false, or_comm}
+use mathlib.Core.Bool.{Bool, true, false, cond, not, ◌&&◌, ◌||◌, or-false, or_comm}
 use native.Mathlib.Omega.{arith}
 use native.Mathlib.Nat.{pow-suc, pow-succ', div-one, div-div-eq-div-mul, mul-mod_left, div-eq_of_lt, div_self, mul-div_cancel_left, zero-div, one-mul, mod-eq_of_lt, lt_of_lt_of_le}
 use native.Mathlib.Decide.{ℕ_discrete, dec_le}
@@ -169,7 +169,7 @@ module _ (s p : ℕ) where
   has_without h q = rw (without_in h, has_less s (2 ^ p) q, power_has p q)
 
 pub has_only : (p : ℕ) → p ≤ 31 → (q : ℕ) → has (only p) q ≡ eqb p q
-has_only p h q = has_with 0 p h q ∙ rw (has_none q) (or_false (eqb p q))
+has_only p h q = has_with 0 p h q ∙ rw (has_none q) (or-false (eqb p q))
 
 -- ---- sets that one place less leaves empty
 pub without_zero : (p : ℕ) → without 0 p ≡ 0

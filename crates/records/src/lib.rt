@@ -1,4 +1,6 @@
 // The records of one house: where they lie, how an element is read and stored, and what a lookup finds.
+#![tactic(auto)]
+
 mod people;
 mod sessions;
 mod sets;
@@ -28,7 +30,7 @@ const SESSIONS: usize = 706;
 const DRAFTS: usize = 1090;
 
 // Sort: 0 staff, 1 freelancer, 2 outsider. Rooms and leads are sets: the rooms joined, the rooms led.
-#[derive(Drop)]
+#[derive(Clone, Copy)]
 pub struct User {
     pub here: bool,
     pub sort: u8,
@@ -39,7 +41,7 @@ pub struct User {
     pub admin: bool,
 }
 
-#[derive(Drop)]
+#[derive(Clone, Copy)]
 pub struct Script {
     pub here: bool,
     pub level: u8,
@@ -48,7 +50,7 @@ pub struct Script {
 }
 
 // Writes: an RW session, at a place; an RO session has none, and 255 stands there.
-#[derive(Drop)]
+#[derive(Clone, Copy)]
 pub struct Session {
     pub here: bool,
     pub owner: u8,
@@ -58,21 +60,21 @@ pub struct Session {
     pub place: u8,
 }
 
-#[derive(Drop)]
+#[derive(Clone, Copy)]
 pub struct Draft {
     pub number: u32,
     pub script: u8,
     pub places: u32,
 }
 
-#[derive(Drop)]
+#[derive(Clone, Copy)]
 pub enum Found {
     At(usize),
     Nothing,
 }
 
 // The rule that a desk is opened under, for its whole life: what Import asks of the labels of two scripts.
-#[derive(Drop)]
+#[derive(Clone, Copy)]
 pub enum Rule {
     One,
     Two,

@@ -121,17 +121,17 @@ pub bytes_behind : (n : ℕ) (b : List ℕ) → Bytes b → Bytes (drop n b)
 bytes_behind n b small i = subst (λ (x : ℕ). x < 256) (sym (get_or-drop n b i 0)) (small (n + i))
 
 pub as_written : {b : List ℕ} {s : Series} → Bytes b → Cuts b s → (k : ℕ) → b ≡ written_out (take k s.requests) ++ drop (length (written_out (take k s.requests))) b
-as_written small c zero = refl
-as_written small (nothing e) (suc k) = refl
-as_written small (unknown l f) (suc k) = refl
-as_written small (cut l f) (suc k) = refl
+as_written {b} small c zero = refl
+as_written {b} small (nothing e) (suc k) = refl
+as_written {b} small (unknown l f) (suc k) = refl
+as_written {b} small (cut l f) (suc k) = refl
 as_written {b} small (whole l q f s later) (suc k) =
     let n : ℕ = suc (body_length (b # 0)) in
     let W : List ℕ = written_out (take k s.requests) in
     let is-n : 1 + body_length (b # 0) ≡ n = omega arith in
     let one : b ≡ written q ++ drop n b = read_is_written b small q f ∙ ap (λ (m : ℕ). written q ++ drop m b) is-n in
     let size : length (written q) ≡ n = (whole_is b q f).size in
-    let rest : drop n b ≡ W ++ drop (length W) (drop n b) = as_written (bytes_behind n b small) later k in
+    let rest : drop n b ≡ W ++ drop (length W) (drop n b) = as_written {b = drop n b} (bytes_behind n b small) later k in
     let gone : drop (length W) (drop n b) ≡ drop (length (written q ++ W)) b =
     drop-drop (length W) n b ∙ ap (λ (m : ℕ). drop m b) (ap (λ (m : ℕ). m + length W) (sym size) ∙ sym (length-append (written q) W)) in
     one ∙ ap (λ (t : List ℕ). written q ++ t) (rest ∙ ap (λ (t : List ℕ). W ++ t) gone) ∙ sym (append_assoc (written q) W _)

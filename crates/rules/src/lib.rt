@@ -1,4 +1,6 @@
 // The record rules, decided by code: a test for each clause, and a walk of each table that makes all of that table's tests.
+#![tactic(auto)]
+
 mod people;
 mod sessions;
 mod texts;

@@ -1,4 +1,6 @@
 // What becomes of sessions: one is opened or ends, and some end together.
+#![tactic(auto)]
+
 ghost use Rattle.std.specs.Prelude.{◌≡◌, map};
 ghost use Rattle.records.specs.House.{view, put_session, no_session, with_sessions};
 ghost use Rattle.sessions.specs.Sessions.{writing, reading, uncovered, ends, ended};
@@ -6,7 +8,7 @@ ghost use Rattle.sessions.specs.Sessions.{writing, reading, uncovered, ends, end
 use records::{Cells, Session};
 
 // Which sessions end: the RW sessions of a room; those of them that w owns; or all sessions of w that the label does not cover.
-#[derive(Drop)]
+#[derive(Clone, Copy)]
 pub enum Ending {
     OfRoom { room: u8 },
     OfMember { w: u8, room: u8 },

@@ -2,6 +2,8 @@
 // A step's line: its scene and number in the scene (307 is the seventh of the third), the kind, the request's bytes, the draft number received.
 // Then the rooms that exist, a line for each user, script and session that is there, the drafts in the order of their table, how many live.
 // Drafts that follow one another by one, with the same script and the same places, share a line. Categories and sets are hexadecimal.
+#![tactic(auto)]
+
 mod lines;
 mod steps;
 

@@ -1,4 +1,6 @@
 // Why a request is answered as it is, on the present desk: the first condition that fails, with what decides it. Nothing is changed.
+#![tactic(auto)]
+
 ghost use Rattle.std.specs.Prelude.{◌≡◌};
 ghost use Rattle.records.specs.House.{view};
 ghost use Rattle.why.specs.Why.{reason_after, reason_of, reason_of_bytes};

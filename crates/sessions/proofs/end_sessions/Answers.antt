@@ -1,0 +1,39 @@
+-- `end_sessions` meets its contract: a map in place that stores only where something changes.
+use borrow.Author.Rules.{rules}
+use borrow.Author.Tests.{not-true, not-false}
+use native.Mathlib.Omega.{arith}
+use Prim.Native.Nat.{◌≤◌, ◌-◌}
+use mathlib.Core.Path.{◌≡◌, ◌∙◌, sym, ap}
+use mathlib.Core.Bool.{true, false}
+use Rattle.records.specs.House.{view, session, no_session}
+use Rattle.records.proofs.Views.{count_sessions}
+use Rattle.sessions.specs.Sessions.{ends, ended}
+use Rattle.sessions.proofs.InPlace.{sessions, Done, start, store, skip, finish_map}
+use Rattle.sessions.proofs.end_sessions.Goals as goal
+
+pub sessions-preserved-then-not-ends : goal.sessions-preserved-then-not-ends
+sessions-preserved-then-not-ends c =
+    let a = c.args in
+    let l = c.sessions in
+    let z = count_sessions a.records.now in
+    let stays : ends a.ending (session (view l.records) l.i) ≡ false =
+    sym (ap (ends a.ending) c.session_at-session.ensures) ∙ sym c.ends.ensures ∙ not-true _ c.if-not-ends.true-raw in
+    (omega arith, skip sessions _ _ l.i _ no_session l.invariant.1 (omega arith) (rw stays))
+
+pub sessions-preserved : goal.sessions-preserved
+sessions-preserved c =
+    let a = c.args in
+    let l = c.sessions in
+    let z = count_sessions a.records.now in
+    let goes : ends a.ending (session (view l.records) l.i) ≡ true =
+    sym (ap (ends a.ending) c.session_at-session.ensures) ∙ sym c.ends.ensures
+    ∙ not-false _ c.if-not-ends.false-raw in (
+      omega arith,
+      store sessions _ _ l.i _ no_session l.invariant.1 (omega arith) _ _ (rw goes c.no_session.ensures) c.put_session.ensures,
+    )
+
+pub returns : goal.returns
+returns c =
+    let l = c.sessions in
+    let z = count_sessions c.args.records.now in
+    finish_map sessions _ _ l.i _ l.invariant.1 (omega arith)
