@@ -55,20 +55,20 @@ from_lower i j (n ∷ ns) le a =
     let y = leb-true j (rank n) x.1 in
     rw (x.0, le-leb i (rank n) (omega arith)) x.2
 
-at_least : (i : ℕ) {k : ℕ} {ls : List Line} → ascend_from i (numbers ls) ≡ true → Failing k ls → i ≤ rank k
-at_least i {k} a (this {b} {d} {ls} e) = leb-true i (rank k) (ascends i k (numbers ls) a).1
-at_least i {k} a (that {m = n} {ls = ls} f) =
+at_least : {k : ℕ} (i : ℕ) {ls : List Line} → ascend_from i (numbers ls) ≡ true → Failing k ls → i ≤ rank k
+at_least {k} i a (this {b} {d} {ls} e) = leb-true i (rank k) (ascends i k (numbers ls) a).1
+at_least {k} i a (that {m = n} {ls = ls} f) =
     let x = ascends i n (numbers ls) a in
     let y = leb-true i (rank n) x.1 in
     let z = at_least (rank n) x.2 f in
     omega arith
 
 -- in ascending lines none that fails stands before the first in the order of refusals
-pub lowest : (i : ℕ) {r : Reason} {k : ℕ} {ls : List Line} → ascend_from i (numbers ls) ≡ true → FirstFailing r ls → Failing k ls → rank r.number ≤ rank k
-lowest i {r} {k} a (here {n} e q) (this d) =
+pub lowest : {r : Reason} {k : ℕ} (i : ℕ) {ls : List Line} → ascend_from i (numbers ls) ≡ true → FirstFailing r ls → Failing k ls → rank r.number ≤ rank k
+lowest {r} {k} i a (here {n} e q) (this d) =
     let y : rank r.number ≡ rank k = ap (λ (t : Reason). rank t.number) q in
     omega arith
-lowest i {r} a (here {n} {b} {d} {ls} e q) (that f) =
+lowest {r} i a (here {n} {b} {d} {ls} e q) (that f) =
     let y : rank r.number ≡ rank n = ap (λ (t : Reason). rank t.number) q in
     let z = at_least (rank n) (ascends i n (numbers ls) a).2 f in
     omega arith

@@ -1,0 +1,15 @@
+-- `user_new` asks one line.
+use borrow.Author.Rules.{rules}
+use mathlib.Core.Path.{refl, sym, ap}
+use mathlib.Core.Bool.{not}
+use Rattle.records.specs.House.{view}
+use Rattle.conditions.specs.Conditions.{is_user}
+use Rattle.reasons.proofs.Asking.{same_line, holds, next}
+use Rattle.reasons.proofs.Lookups.{found, missing}
+use Rattle.reasons.proofs.Asked.user_new.Goals as goal
+
+pub returns : goal.returns
+returns c =
+    let a = c.args in
+    let none = missing (is_user (view a.records.now) a.new) _ c.find_user.ensures c.in-Nothing.is in
+    next c.in-Holds.is (holds _ _ (ap not none))
