@@ -44,6 +44,7 @@ fn grant_if(grant: Ruling, asked: Asked) -> Ruling
 }
 
 // ---- every kind, on a desk under the rule. The ruling stands in each arm, so that a kind's walk is compiled into it.
+#[tactic(auto, unfolding(crate::specs::Kinds::ruling_of))]
 pub fn judge(records: &Cells, rule: Rule, request: Request) -> Ruling
     ensures { result ≡ ruling_of rule (view records.now) request }
 {

@@ -1,0 +1,13 @@
+-- `leave_outsider` asks the lines of 06 in their order.
+use borrow.Author.Rules.{rules}
+use Rattle.reasons.specs.Shared.{pair_numbers, pair_led}
+use Rattle.reasons.proofs.Asking.{then}
+use Rattle.judge.proofs.people.leave_outsider.Goals as goal
+
+pub returns : goal.returns
+unfolding pair_numbers pair_led
+returns c =
+    let s1 = c.pair_numbers.ensures in
+    let s2 = then _ _ s1 c.pair_led.ensures in
+    let s3 = then _ _ s2 c.freelancer.ensures in
+    then _ _ s3 c.in_room.ensures

@@ -1,0 +1,15 @@
+-- `add` asks the lines of 07 in their order.
+use borrow.Author.Rules.{rules}
+use mathlib.Core.List.{[], ◌∷◌}
+use Rattle.records.specs.House.{view, house}
+use Rattle.reasons.specs.Lines.{draft_among, draft_not_among}
+use Rattle.reasons.proofs.Asking.{joined, asked_in, stands_in, reached}
+use Rattle.judge.proofs.texts.add.Goals as goal
+
+pub returns : goal.returns
+returns c =
+    let a = c.args in
+    let d = c.draft_led-draft in
+    let h = view a.records.now in
+    reached _ (λ x. draft_among a.number x house ∷ draft_not_among a.number x a.room ∷ []) (asked_in h a.script a.number d.ensures) (stands_in h a.script a.number d.ensures)
+    (joined d.result.asked _ _ c.among.ensures c.not_among.ensures)
