@@ -28,6 +28,6 @@ pub fn save(records: &Cells, last: u32, rule: Rule, out: &mut [u8]) -> Written
     if out.len() < n {
         return Written::Refused(14);
     }
-    bytes::copy(&aside[..n], out);
+    out[..n].copy_from_slice(&aside[..n]);
     Written::Bytes(n)
 }
