@@ -2,11 +2,7 @@
 use Rattle.records.proofs.Views.{view_zeros}
 use Rattle.kept.proofs.Ring.{past_zeros}
 use Rattle.history.specs.Desk.{opens}
-use Rattle.history.proofs.empty_desk.Statement.{statement}
-use Rattle.history.proofs.empty_desk.Tie as tie
+use Rattle.history.proofs.empty_desk.Goals as goal
 
-returns : tie.Need-returns
+pub returns : goal.returns
 returns c = λ i. opens c.args.answer (record { base = view_zeros 1858 i; log = past_zeros 418 i; current = view_zeros 1858 i; last = c.args.last }) c.args.rule
-
-pub empty-desk-spec : {M : Type 1} → statement M
-empty-desk-spec = tie.close (tie.spec returns)

@@ -1,0 +1,41 @@
+-- `take_all` meets its contract: the frames passed are taken in, and the walk goes on behind them.
+use borrow.Author.Rules.{rules}
+use Prim.Native.Nat.{◌+◌, ◌≤◌, ◌-◌}
+use mathlib.Core.Path.{◌≡◌, sym, ap, ◌∙◌}
+use native.Mathlib.Omega.{arith}
+use lib.ListN.{length, drop}
+use Rattle.records.specs.House.{House, view}
+use Rattle.records.specs.declared.Rule.{Rule}
+use Rattle.reader.specs.Reading.{Saved, saved, blank, walked}
+use Rattle.reader.proofs.Walking.{unknown_here, cut_here, whole_here, at_end_lem, part_all}
+use Rattle.reader.proofs.take_all.Goals as goal
+
+pub returns-in_default : goal.returns-in_default
+returns-in_default c =
+    let f = c.frames in
+    let b = c.args.image.now in
+    sym (f.invariant.1 ∙ unknown_here _ b f.at (omega arith) (sym c.in_default.is ∙ c.length_of.ensures))
+
+pub returns-then-image-start : goal.returns-then-image-start
+returns-then-image-start c =
+    let f = c.frames in
+    let b = c.args.image.now in
+    let n = c.n-1.given in
+    sym (f.invariant.1 ∙ cut_here _ b f.at (omega arith) n.0.0 (sym n.1 ∙ c.length_of.ensures) (omega arith))
+
+pub frames-preserved : goal.frames-preserved
+frames-preserved c =
+    let f = c.frames in
+    let b = c.args.image.now in
+    let n = c.n-1.given in
+    let told = sym n.1 ∙ c.length_of.ensures in (
+      omega arith,
+      f.invariant.1 ∙ whole_here _ b f.at (omega arith) n.0.0 told (omega arith)
+          ∙ ap (λ (s : Saved). walked 0 s (drop (f.at + 1 + n.0.0) b)) (sym (rw (part_all b (f.at + 1)) at c.take_in-rule.ensures)),
+    )
+
+pub returns : goal.returns
+returns c =
+    let f = c.frames in
+    let b = c.args.image.now in
+    sym (f.invariant.1 ∙ at_end_lem _ b f.at (omega arith))
