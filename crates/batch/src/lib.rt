@@ -40,7 +40,7 @@ impl Ran {
 }
 
 // The desk after a batch, and what the batch returned.
-#[derive(Clone, Copy)]
+#[derive(Drop)]
 pub struct RanDesk {
     pub desk: Desk,
     pub ran: Ran,

@@ -92,8 +92,13 @@ module _ (rule : Rule) (d : Desk House Change) (q : Request) where
   split (n unless b because e ∷ xs) ys f g (later p x) = split xs ys (λ y. f (later p y)) g x
 
   after_true : (g : Ruling) {r : Reason} → FirstFailing r (after_lines g d.last (length d.log)) → TrueOf rule d r
+  after_true (Refused _) f = elim f [ ]
+  after_true Pass f = elim f [ ]
+  after_true Keep f = elim f [ ]
   after_true KeepNumbered (here p w) = rw w (no_number (eqb-true d.last top (not-false (eqb d.last top) p)))
+  after_true KeepNumbered (later _ f) = elim f [ ]
   after_true Ruling.TakeBack (here p w) = rw w (no_change (eqb-true (length d.log) 0 (not-false (eqb (length d.log) 0) p)))
+  after_true Ruling.TakeBack (later _ f) = elim f [ ]
 
   named_true : {r : Reason} → FirstFailing r (asked_by rule d q) → TrueOf rule d r
   named_true {r} f = split (lines_of rule d.current q) (after_lines (grant_of q) d.last (length d.log)) (λ x. of_records (first_told rule d.current q r x)) (after_true (grant_of q)) f
