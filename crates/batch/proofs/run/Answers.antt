@@ -1,68 +1,36 @@
 -- `run` meets its contract: a turn of the loop is a request of the batch in specs/.
-use borrow.Author.Rules.{rules}
-use native.Mathlib.Omega.{arith}
-use mathlib.Core.Logic.{⊎_elim}
-use Prim.Native.Nat.{◌+◌, ◌-◌, ◌≤◌}
-use lib.ListN.{length}
+use Rattle.std.proofs.Common.{arith}
 use Rattle.history.specs.Desk.{shown}
-use Rattle.batch.proofs.Steps.{at_most_five}
-use Rattle.batch.proofs.Turn.{Underway, Over, as_left, as_returned, at_start, at_end_lem, no_room, unknown, cut, inside, next}
--- a turn's way back from its end: to how the bytes begin, and to the room for the answer
--- the request's bytes are all there
--- where the four ways out of the loop meet
+use Rattle.batch.proofs.Turn.{Over, as_left, as_returned, at_end_lem, no_room, unknown, cut, next}
+use Rattle.batch.proofs.run.Goals.{then-requests-used, else-requests-used+then-room_left-lt5, else-requests-used+else-room_left-lt5+in-Unknown, else-requests-used+else-room_left-lt5+in-Cut}
 use Rattle.batch.proofs.run.Goals as goal
-
--- abbrev with-start : tie.After-slice-known4 invariant-loop decreases-loop → tie.After-start invariant-loop decreases-loop
--- with-start c = c.before.before.before.before.before.before.before.before.before.before.before.before
--- 
-
--- abbrev with-room : tie.After-slice-known4 invariant-loop decreases-loop → tie.Else2 invariant-loop decreases-loop
--- with-room c = (with-start c).before.before.before.before
--- 
-
-all_there : (c : tie.After-slice-known4 invariant-loop decreases-loop)
-    → (with-room c).before.before.before.loop.used + (1 + (with-start c).start.given.0.0) ≤ length (with-room c).before.before.before.before.before.before.args.requests.now
-all_there c =
-    let start = with-start c in
-    let at = start.before.before.start_of_lem in
-    let first = c.before.before.before.before.before.before.before.before.before.first in
-    let room = with-room c in
-    inside room.before.before.before.loop.inv room.before.before.if1.left room.before.room-left.result room.before.room-left.ensures
-    room.if2.left at.result at.ensures _ start.start.given.1 first.result first.ensures
-
--- abbrev begun : tie.Joined1 invariant-loop decreases-loop → tie.Start invariant-loop decreases-loop
--- begun c = c.before.before.before.before
--- 
-
-ended : (c : tie.Joined1 invariant-loop decreases-loop)
-    → Over (begun c).args.rule (begun c).args.requests.now (begun c).args.answers.now (begun c).args.place
-    (shown (begun c).args.base.now (begun c).args.log.now (begun c).args.current.now (begun c).args.last.now)
-    (shown c.before.loop.base c.before.loop.log c.before.loop.current c.before.loop.last)
-    c.before.loop.used c.if1.answers c.if1.at c.if1.stop
-ended c =
-    let h = c.before.loop.invariant in
-    ⊎_elim (λ w. as_left w.1 w.2 w.3 (at_end_lem h w.0.taken))
-    (⊎_elim (λ w. as_left w.3 w.4 w.5 (no_room h w.0.left w.1.result w.1.ensures w.2.taken))
-    (⊎_elim
-    (λ w. as_left w.11 w.12 w.13
-    (unknown h w.0.left w.1.result w.1.ensures w.2.left w.4.result w.4.ensures w.6.given.1
-    w.8.result w.8.ensures.0 w.8.last.0 w.8.ensures.1))
-    (λ w. as_left w.11 w.12 w.13
-    (cut h w.0.left w.1.result w.1.ensures w.2.left w.4.result w.4.ensures w.6.given.1
-    w.8.result w.8.ensures.0 w.8.last.0 w.8.ensures.1))))
-    c.if1.branch
 
 pub loop-used-preserved : goal.loop-used-preserved
 loop-used-preserved c =
     let put = c.put_answer-at-in-Whole in
-    let take = c.take-answer in
-    let first = c.first-request in
-    let start = with-start c in
-    let at = start.before.before.start_of_lem in
-    let room = with-room c in
-    next room.before.before.before.loop.inv room.before.before.if1.left room.before.room-left.result room.before.room-left.ensures
-    room.if2.left at.result at.ensures _ start.start.given.1 first.result first.ensures
-    _ take.result take.ensures put.result put.ensures.0 put.new.0 put.ensures.1
+    next c.loop-used.invariant c.if-requests-used.false c.room_left.result c.room_left.ensures c.if-room_left-lt5.false
+    c.start_of-start.result c.start_of-start.ensures _ c.in-Whole.is c.first-request.result c.first-request.ensures
+    _ c.take-answer.result c.take-answer.ensures put.result put.ensures.0 put.new.out put.ensures.1
 
+-- where the four ways out of the loop meet
 pub returns : goal.returns
-returns c = as_returned c.new.ensures (ended c).0
+returns c =
+    let h = c.loop-used.invariant in
+    let a = c.args in
+    let left = c.if-requests-used in
+    let over : Over a.rule a.requests.now a.answers.now a.place (shown a.base.now a.log.now a.current.now a.last.now)
+    (shown c.loop-used.base c.loop-used.log c.loop-used.current c.loop-used.last) c.loop-used.used left.answers left.at left.stop =
+        elim left.branch [
+          then-requests-used w ↦ as_left w.answers-is w.at-is w.stop-is (at_end_lem h w.if-requests-used.true)
+        | else-requests-used+then-room_left-lt5 w ↦
+            as_left w.answers-is w.at-is w.stop-is (no_room h w.if-requests-used.false w.room_left.result w.room_left.ensures w.if-room_left-lt5.true)
+        | else-requests-used+else-room_left-lt5+in-Unknown w ↦
+            as_left w.answers-is w.at-is w.stop-is
+            (unknown h w.if-requests-used.false w.room_left.result w.room_left.ensures w.if-room_left-lt5.false w.start_of-start.result w.start_of-start.ensures
+            w.in-Unknown.is w.put_answer-at.result w.put_answer-at.ensures.0 w.put_answer-at.new.out w.put_answer-at.ensures.1)
+        | else-requests-used+else-room_left-lt5+in-Cut w ↦
+            as_left w.answers-is w.at-is w.stop-is
+            (cut h w.if-requests-used.false w.room_left.result w.room_left.ensures w.if-room_left-lt5.false w.start_of-start.result w.start_of-start.ensures
+            w.in-Cut.is w.put_answer-at-in-Cut.result w.put_answer-at-in-Cut.ensures.0 w.put_answer-at-in-Cut.new.out w.put_answer-at-in-Cut.ensures.1)
+        ] in
+    as_returned c.new.ensures over.0

@@ -7,9 +7,6 @@ use lib.ListN.{length}
 use Rattle.history.specs.Desk.{shown}
 use Rattle.batch.proofs.Steps.{at_most_five}
 use Rattle.batch.proofs.Turn.{Underway, Over, as_left, as_returned, at_start, at_end_lem, no_room, unknown, cut, inside, next}
--- a turn's way back from its end: to how the bytes begin, and to the room for the answer
--- the request's bytes are all there
--- where the four ways out of the loop meet
 use Rattle.batch.proofs.run.Given as goal
 
 abbrev pub invariant-loop-used : goal.invariant-loop-used
