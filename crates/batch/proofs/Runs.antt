@@ -8,7 +8,7 @@ use lib.ListN.{length, drop}
 use Rattle.request.specs.Bytes.{◌#◌}
 use Rattle.request.specs.Kinds.{body_length}
 use Rattle.request.specs.Reading.{frame_of}
-use Rattle.request.specs.Framing.{Series, series_of}
+use Rattle.request.specs.Framing.{Series}
 use Rattle.request.specs.declared.Frame.{Frame}
 use Rattle.request.specs.declared.Request.{Request}
 use Rattle.request.proofs.Framing.{Cuts, nothing, whole, cuts, whole_is}

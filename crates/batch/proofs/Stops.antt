@@ -11,7 +11,7 @@ use Rattle.request.specs.Reading.{frame_of}
 use Rattle.request.specs.declared.Frame.{Frame}
 use Rattle.request.proofs.Framing.{whole_is}
 use Rattle.batch.specs.Batch.{State, Result, run_batch, Batched}
-use Rattle.batch.specs.Stops.{EndsIn, AtFrame, Means}
+use Rattle.batch.specs.Stops.{AtFrame, Means}
 use Rattle.batch.specs.declared.Stop.{Stop}
 use Rattle.batch.specs.declared.Ran.{Ran}
 use Rattle.batch.proofs.Steps.{answered}

@@ -1,5 +1,5 @@
 -- What a granted request makes of one user, script or draft; of leads, crates/leads/specs/Leads.antt, of sessions, crates/sessions/specs/Sessions.antt. The quoted words are those of 01's column "Granted effect".
-use Rattle.std.specs.Prelude.{ℕ, Bool, true, false, cond, ◌&&◌, eqb}
+use Rattle.std.specs.Prelude.{ℕ, Bool, true, cond, ◌&&◌, eqb}
 use Rattle.records.specs.Places.{with, without}
 use Rattle.records.specs.House.{no_script, freelancer}
 use Rattle.records.specs.declared.User.{User}

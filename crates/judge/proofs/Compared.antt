@@ -6,7 +6,7 @@ use native.Mathlib.Omega.{arith}
 use Rattle.records.specs.House.{House}
 use Rattle.records.specs.declared.Rule.{Rule}
 use Rattle.request.specs.declared.Request.{Request}
-use Rattle.reasons.specs.Asking.{Failing, applies}
+use Rattle.reasons.specs.Asking.{applies}
 use Rattle.reasons.specs.Order.{rank}
 use Rattle.reasons.specs.declared.Reason.{Reason}
 use Rattle.reasons.proofs.Order.{failing, applies_failing, failing_applies}

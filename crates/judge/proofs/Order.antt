@@ -1,7 +1,7 @@
 -- What an answer of the judge says: a grant, that every fact holds; a refusal, that its reason is of the first fact that fails, and so has the lowest number that
 -- applies, by the order of refusals.
 use Prim.Native.Nat.{ℕ, ◌≤◌}
-use mathlib.Core.Path.{◌≡◌, refl, sym, ap, ◌∙◌}
+use mathlib.Core.Path.{◌≡◌, sym, ap, ◌∙◌}
 use mathlib.Core.Bool.{true, false}
 use mathlib.Core.List.{List, [], ◌∷◌}
 use native.Mathlib.Omega.{arith}

@@ -1,22 +1,20 @@
 -- What is true of the row of every kind: one clause a kind, in which each fact is computed from the kind's lines.
-use Prim.Native.Nat.{ℕ}
 use mathlib.Core.Path.{◌≡◌, refl}
 use mathlib.Core.Bool.{Bool, true, false, not, ◌||◌}
-use mathlib.Core.List.{List, [], ◌∷◌, ◌++◌}
+use mathlib.Core.List.{[], ◌∷◌, ◌++◌}
 use mathlib.Core.Logic.{◌⊎◌, inl, inr}
 use lib.Dec.{eqb}
-use Rattle.label.specs.declared.Parts.{Parts}
 use Rattle.records.specs.Lists.{any, all}
 use Rattle.records.specs.House.{House, user, script, session}
 use Rattle.records.specs.declared.Rule.{Rule}
 use Rattle.conditions.specs.Conditions.{opening, reading, updating, importing}
 use Rattle.request.specs.declared.Request.{Request}
-use Rattle.reasons.specs.Asking.{Line, applies, numbers, once_after}
+use Rattle.reasons.specs.Asking.{applies, numbers, once_after}
 use Rattle.reasons.specs.Order.{ascend_from}
 use Rattle.reasons.specs.Shared.{pair_numbers, pair_led, draft_led, opens, covers, as_script, imports, draft_asked}
 use Rattle.judge.specs.declared.Ruling.{Ruling}
 use Rattle.judge.specs.declared.Ruling.TheVariants.{Refused, Pass, Keep, KeepNumbered}
-use Rattle.judge.specs.Kinds.{enrol_where, establish_lines, import_lines, disband_lines, create_lines, kill_lines, take_back_lines, Kind, kind, lines_of}
+use Rattle.judge.specs.Kinds.{enrol_where, establish_lines, import_lines, disband_lines, create_lines, kill_lines, take_back_lines, Kind, kind}
 use Rattle.judge.specs.Amended.{IsImport, is_import}
 
 abbrev pub refuses : Ruling → Bool

@@ -15,7 +15,7 @@ use Rattle.records.specs.declared.Script.{Script}
 use Rattle.records.specs.declared.Session.{Session}
 use Rattle.records.specs.declared.Draft.{Draft}
 use Rattle.records.specs.declared.Rule.{Rule}
-use Rattle.rules.specs.Facts.{Among, Rules}
+use Rattle.rules.specs.Facts.{Among}
 use Rattle.rules.proofs.Bools.{clash, equal, at_most}
 use Rattle.rules.proofs.Lists.{each_is}
 use Rattle.rules.proofs.Sets.{room_number, rooms_any}

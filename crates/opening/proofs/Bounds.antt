@@ -1,7 +1,7 @@
 -- An image of records that keep the rules is bytes: 01's bounds fit the widths of the fields.
-use Prim.Native.Nat.{ℕ, zero, suc, ◌+◌, ◌/◌, ◌%◌, ◌≤◌, ◌<◌}
-use mathlib.Core.Path.{◌≡◌, refl, sym, ap, ◌∙◌}
-use mathlib.Core.Bool.{Bool, true, false, cond, ◌||◌}
+use Prim.Native.Nat.{ℕ, zero, suc, ◌+◌, ◌≤◌, ◌<◌}
+use mathlib.Core.Path.{◌≡◌, refl, sym, ◌∙◌}
+use mathlib.Core.Bool.{Bool, true, false, cond}
 use mathlib.Core.List.{List, [], ◌∷◌, ◌++◌}
 use native.Mathlib.Omega.{arith}
 use native.Mathlib.Decide.{ℕ_discrete, dec_le}
@@ -12,11 +12,8 @@ use borrow.Author.Tests.{eqb-true}
 use Rattle.request.specs.Bytes.{◌#◌}
 use Rattle.records.specs.Places.{has, with, room_numbers}
 use Rattle.records.specs.House.{no_user, no_script, no_session, as_number, house}
-use Rattle.records.specs.declared.User.{User}
-use Rattle.records.specs.declared.Script.{Script}
 use Rattle.records.specs.declared.Session.{Session}
 use Rattle.records.specs.declared.Draft.{Draft}
-use Rattle.records.specs.declared.Rule.{Rule}
 use Rattle.rules.specs.Lists.{Each}
 use Rattle.rules.specs.Facts.{Among, Place, Rules, UserFine, ScriptFine, Seated, Filed, Ascending}
 use Rattle.rules.proofs.Bools.{clash, at_most}

@@ -16,7 +16,6 @@ use Rattle.reader.specs.Reading.{Saved, blank, Taken, walked, stop_of}
 use Rattle.reader.specs.declared.Walk.{Walk}
 use Rattle.reader.proofs.Walking.{walk_stops}
 use Rattle.opening.specs.Opening.{keeps, image, IsImage, Opens, refused, accepted, same_bytes, by_walk, opened_by}
-use Rattle.opening.specs.declared.Opening.{Opening}
 use Rattle.opening.specs.declared.Opening.TheVariants.{Opened, Refused}
 use Rattle.opening.proofs.Bounds.{image_bytes}
 use Rattle.opening.proofs.Marks.{rule_byte}

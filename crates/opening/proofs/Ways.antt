@@ -4,12 +4,11 @@ use mathlib.Core.Path.{◌≡◌, refl, sym, ap, ◌∙◌}
 use mathlib.Core.Bool.{Bool, true, false, cond, ◌&&◌}
 use mathlib.Core.List.{List}
 use native.Mathlib.Omega.{arith}
-use lib.Dec.{eqb}
 use lib.ListN.{length}
 use borrow.Author.Tests.{eq-eqb, ne_eqb}
 use Rattle.reader.specs.Reading.{Saved, blank, Taken, stopped, walked}
 use Rattle.reader.specs.declared.Walk.{Walk}
-use Rattle.opening.specs.Opening.{image, keeps, Opens, refused, accepted, same_bytes, by_walk, opened_by}
+use Rattle.opening.specs.Opening.{image, keeps, refused, accepted, same_bytes, by_walk, opened_by}
 
 pub no_bytes : (b : List ℕ) → length b ≡ 0 → refused 14 ≡ opened_by b
 unfolding opened_by

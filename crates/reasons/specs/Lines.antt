@@ -2,7 +2,7 @@
 use Rattle.std.specs.Prelude.{ℕ, Bool, not, ◌||◌, eqb, length}
 use Rattle.label.specs.declared.Parts.{Parts}
 use Rattle.records.specs.Places.{only}
-use Rattle.records.specs.House.{House, house, staff, freelancer, outsider, as_number, user, script, session}
+use Rattle.records.specs.House.{House, staff, freelancer, outsider, as_number, user, script, session}
 use Rattle.records.specs.declared.Draft.{Draft}
 use Rattle.leads.specs.Leads.{lead_count}
 use Rattle.counter.specs.Numbers.{top}

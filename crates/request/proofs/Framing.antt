@@ -7,12 +7,12 @@ use native.Mathlib.Omega.{arith}
 use lib.Dec.{leb, eqb}
 use lib.ListN.{length, take, drop, length-append}
 use lib.Seq.{drop-nil, drop-drop, get_or-drop}
-use borrow.Author.Tests.{leb-true, leb-false}
+use borrow.Author.Tests.{leb-false}
 use Rattle.request.specs.Bytes.{◌#◌, Bytes}
 use Rattle.request.specs.Kinds.{Row, Sought, at, none, rows, find, length_at, body_length}
 use Rattle.request.specs.Reading.{fields_from, frame_at, frame_of}
 use Rattle.request.specs.Writing.{written}
-use Rattle.request.specs.Framing.{End, no_bytes, unknown_kind, cut_body, Series, ends, before, by_frame, series_from, series_of, kind_of, written_out}
+use Rattle.request.specs.Framing.{no_bytes, unknown_kind, cut_body, Series, ends, before, by_frame, series_from, series_of, kind_of, written_out}
 use Rattle.request.specs.declared.Frame.{Frame}
 use Rattle.request.specs.declared.Frame.TheVariants.{Whole, Unknown, Cut}
 use Rattle.request.specs.declared.Request.{Request}

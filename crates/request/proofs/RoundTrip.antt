@@ -5,13 +5,13 @@ use mathlib.Core.List.{List, [], ◌∷◌, ◌++◌, append_assoc}
 use Prim.Native.Nat.{ℕ, ◌+◌, ◌/◌, ◌%◌, ◌≤◌, ◌<◌}
 use native.Mathlib.Omega.{arith}
 use native.Mathlib.Numerals.{add-one}
-use lib.ListN.{length, drop, replicate}
+use lib.ListN.{length, drop}
 use lib.Dec.{eqb, leb}
 use lib.Seq.{drop-cons}
 use borrow.Author.Tests.{leb-false}
 use Rattle.request.specs.Bytes.{◌#◌, pair, pair_at, quad, quad_at, pair_bytes, quad_bytes}
 use Rattle.request.specs.Kinds.{Body, one, two, four, make, Row, Sought, at, none, rows, find, length_at, body_length}
-use Rattle.request.specs.Reading.{fields_from, request_at, request_of, frame_at, frame_of}
+use Rattle.request.specs.Reading.{fields_from, request_of, frame_at, frame_of}
 use Rattle.request.specs.Writing.{Field, Spelling, spelt, written}
 use Rattle.request.specs.declared.Frame.TheVariants.{Whole, Cut}
 use Rattle.request.specs.declared.Request.{Request}

@@ -1,7 +1,7 @@
 -- Every reason explains the answer of the desk, in every state; and of bytes it is the request's that they begin with.
 use Prim.Native.Nat.{ℕ}
 use mathlib.Core.Path.{◌≡◌, refl, sym, ap, ◌∙◌}
-use mathlib.Core.Bool.{Bool, true, false, not}
+use mathlib.Core.Bool.{Bool, true, false}
 use mathlib.Core.List.{List, [], ◌∷◌, ◌++◌}
 use borrow.Author.Tests.{eqb-true, leb-true, le-leb, not-false}
 use native.Mathlib.Omega.{arith}
@@ -17,7 +17,7 @@ use Rattle.records.specs.House.{House}
 use Rattle.records.specs.declared.Rule.{Rule}
 use Rattle.effects.specs.declared.Change.{Change}
 use Rattle.counter.specs.Numbers.{top, next_after}
-use Rattle.reasons.specs.Reasons.{bare, reason}
+use Rattle.reasons.specs.Reasons.{bare}
 use Rattle.reasons.specs.Asking.{Line, ◌unless◌, ◌because◌, asked, both, told, FirstFailing, here, later, numbers}
 use Rattle.reasons.specs.Order.{rank, ascend_from}
 use Rattle.reasons.specs.declared.Reason.{Reason}

@@ -1,5 +1,4 @@
 -- `run` meets its contract: a turn of the loop is a request of the batch in specs/.
-use Rattle.std.proofs.Common.{arith}
 use Rattle.history.specs.Desk.{shown}
 use Rattle.batch.proofs.Turn.{Over, as_left, as_returned, at_end_lem, no_room, unknown, cut, next}
 use Rattle.batch.proofs.run.Goals.{then-requests-used, else-requests-used+then-room_left-lt5, else-requests-used+else-room_left-lt5+in-Unknown, else-requests-used+else-room_left-lt5+in-Cut}
@@ -20,17 +19,17 @@ returns c =
     let left = c.if-requests-used in
     let over : Over a.rule a.requests.now a.answers.now a.place (shown a.base.now a.log.now a.current.now a.last.now)
     (shown c.loop-used.base c.loop-used.log c.loop-used.current c.loop-used.last) c.loop-used.used left.answers left.at left.stop =
-        elim left.branch [
-          then-requests-used w ↦ as_left w.answers-is w.at-is w.stop-is (at_end_lem h w.if-requests-used.true)
-        | else-requests-used+then-room_left-lt5 w ↦
-            as_left w.answers-is w.at-is w.stop-is (no_room h w.if-requests-used.false w.room_left.result w.room_left.ensures w.if-room_left-lt5.true)
-        | else-requests-used+else-room_left-lt5+in-Unknown w ↦
-            as_left w.answers-is w.at-is w.stop-is
-            (unknown h w.if-requests-used.false w.room_left.result w.room_left.ensures w.if-room_left-lt5.false w.start_of-start.result w.start_of-start.ensures
-            w.in-Unknown.is w.put_answer-at.result w.put_answer-at.ensures.0 w.put_answer-at.new.out w.put_answer-at.ensures.1)
-        | else-requests-used+else-room_left-lt5+in-Cut w ↦
-            as_left w.answers-is w.at-is w.stop-is
-            (cut h w.if-requests-used.false w.room_left.result w.room_left.ensures w.if-room_left-lt5.false w.start_of-start.result w.start_of-start.ensures
-            w.in-Cut.is w.put_answer-at-in-Cut.result w.put_answer-at-in-Cut.ensures.0 w.put_answer-at-in-Cut.new.out w.put_answer-at-in-Cut.ensures.1)
-        ] in
+    elim left.branch [
+      | then-requests-used w ↦ as_left w.answers-is w.at-is w.stop-is (at_end_lem h w.if-requests-used.true)
+      | else-requests-used+then-room_left-lt5 w ↦
+          as_left w.answers-is w.at-is w.stop-is (no_room h w.if-requests-used.false w.room_left.result w.room_left.ensures w.if-room_left-lt5.true)
+      | else-requests-used+else-room_left-lt5+in-Unknown w ↦
+          as_left w.answers-is w.at-is w.stop-is
+          (unknown h w.if-requests-used.false w.room_left.result w.room_left.ensures w.if-room_left-lt5.false w.start_of-start.result w.start_of-start.ensures
+          w.in-Unknown.is w.put_answer-at.result w.put_answer-at.ensures.0 w.put_answer-at.new.out w.put_answer-at.ensures.1)
+      | else-requests-used+else-room_left-lt5+in-Cut w ↦
+          as_left w.answers-is w.at-is w.stop-is
+          (cut h w.if-requests-used.false w.room_left.result w.room_left.ensures w.if-room_left-lt5.false w.start_of-start.result w.start_of-start.ensures
+          w.in-Cut.is w.put_answer-at-in-Cut.result w.put_answer-at-in-Cut.ensures.0 w.put_answer-at-in-Cut.new.out w.put_answer-at-in-Cut.ensures.1)
+    ] in
     as_returned c.new.ensures over.0

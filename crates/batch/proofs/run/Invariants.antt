@@ -1,12 +1,8 @@
 -- `run` meets its contract: a turn of the loop is a request of the batch in specs/.
-use borrow.Author.Rules.{rules}
-use native.Mathlib.Omega.{arith}
-use mathlib.Core.Logic.{⊎_elim}
-use Prim.Native.Nat.{◌+◌, ◌-◌, ◌≤◌}
+use Prim.Native.Nat.{◌-◌}
 use lib.ListN.{length}
 use Rattle.history.specs.Desk.{shown}
-use Rattle.batch.proofs.Steps.{at_most_five}
-use Rattle.batch.proofs.Turn.{Underway, Over, as_left, as_returned, at_start, at_end_lem, no_room, unknown, cut, inside, next}
+use Rattle.batch.proofs.Turn.{Underway}
 use Rattle.batch.proofs.run.Given as goal
 
 abbrev pub invariant-loop-used : goal.invariant-loop-used

@@ -1,14 +1,11 @@
 -- `no_users` goes through the users: none that it passed is there, so it is left to ask whether any of the rest is.
-use borrow.Author.Rules.{rules}
-use Prim.Native.Nat.{◌≤◌, ◌<◌, ◌-◌}
-use mathlib.Core.Path.{◌≡◌, refl, sym, ap, ◌∙◌}
+use Prim.Native.Nat.{◌≤◌}
+use mathlib.Core.Path.{sym, ap, ◌∙◌}
 use mathlib.Core.Bool.{not}
 use native.Mathlib.Omega.{arith}
-use lib.ListN.{drop, length}
-use Rattle.records.specs.Lists.{any}
-use Rattle.records.specs.House.{view, no_user}
-use Rattle.conditions.specs.Conditions.{no_users}
-use Rattle.conditions.proofs.Users.{any_more, any_end, count_users}
+use lib.ListN.{length}
+use Rattle.records.specs.House.{view}
+use Rattle.conditions.proofs.Users.{any_end, count_users}
 use Rattle.conditions.proofs.no_users.Goals as goal
 
 pub returns : goal.returns

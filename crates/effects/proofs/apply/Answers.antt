@@ -1,5 +1,4 @@
 -- `apply` meets its contract: each arm is told its kind, at which the definition computes, and calls that kind's effect.
-use borrow.Author.Rules.{rules}
 use Rattle.effects.specs.Effects.{applied}
 use Rattle.effects.proofs.apply.Goals as goal
 

@@ -1,5 +1,4 @@
 -- `make` meets its contract: the three parts, put together.
-use borrow.Author.Rules.{rules}
 use Rattle.records.specs.House.{view}
 use Rattle.effects.specs.Effects.{change_of}
 use Rattle.kept.specs.Log.{past}

@@ -1,5 +1,4 @@
 -- `take` judges by the present records and the rule, and acts by that.
-use borrow.Author.Rules.{rules}
 use Rattle.history.specs.Desk.{shown}
 use Rattle.history.proofs.Laws.{taken_is}
 use Rattle.history.proofs.take.Goals as goal

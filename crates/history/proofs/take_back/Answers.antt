@@ -1,5 +1,4 @@
 -- `take_back` meets its contract: by whether a change is kept.
-use borrow.Author.Rules.{rules}
 use borrow.Author.Tests.{eq-eqb, ne_eqb}
 use mathlib.Core.Path.{sym, ◌∙◌}
 use lib.ListN.{length}

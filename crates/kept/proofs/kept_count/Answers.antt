@@ -1,5 +1,4 @@
 -- `kept_count` meets its contract: the byte, or 32 where that is less.
-use borrow.Author.Rules.{rules}
 use native.Mathlib.Omega.{arith}
 use Rattle.kept.proofs.Ring.{past_length}
 use Rattle.kept.proofs.kept_count.Goals as goal

@@ -1,11 +1,5 @@
 -- `pop` meets its contract: the count falls by one, and all but the newest stay.
-use borrow.Author.Rules.{rules}
 use native.Mathlib.Omega.{arith}
-use Prim.Native.Nat.{◌-◌, ◌≤◌}
-use mathlib.Core.Path.{sym}
-use lib.ListN.{length}
-use lib.Seq.{take_all}
-use Rattle.kept.specs.Log.{past}
 use Rattle.kept.proofs.Ring.{pop_one}
 use Rattle.kept.proofs.pop.Goals as goal
 

@@ -1,5 +1,4 @@
 -- `push` meets its contract: by whether there was room.
-use borrow.Author.Rules.{rules}
 use borrow.Author.Tests.{lt-ltb, le-ltb}
 use native.Mathlib.Omega.{arith}
 use Prim.Native.Nat.{◌<◌}

@@ -1,5 +1,4 @@
 -- `redo` meets its contract: the slot of a kept change, and past them the change without effect.
-use borrow.Author.Rules.{rules}
 use native.Mathlib.Omega.{arith}
 use Prim.Native.Nat.{◌≤◌, ◌<◌}
 use mathlib.Core.Path.{sym, ap, ◌∙◌}

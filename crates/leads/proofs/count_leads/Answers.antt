@@ -1,13 +1,10 @@
 -- `count_leads` meets its contract: the leads among those passed are counted, and the rest is left to count.
-use borrow.Author.Rules.{rules}
-use borrow.Author.Tests.{not-true, not-false}
-use Prim.Native.Nat.{ℕ, ◌+◌, ◌≤◌, ◌<◌, ◌-◌}
-use mathlib.Core.Path.{◌≡◌, refl, sym, ap, ◌∙◌}
-use mathlib.Core.Bool.{Bool, true, false}
+use borrow.Author.Tests.{not-false}
+use Prim.Native.Nat.{ℕ, ◌≤◌, ◌<◌}
+use mathlib.Core.Path.{◌≡◌, sym, ◌∙◌}
+use mathlib.Core.Bool.{Bool, true}
 use native.Mathlib.Omega.{arith}
-use native.Mathlib.Nat.{zero-add}
-use lib.ListN.{drop, length, drop_of_length-le}
-use Rattle.records.specs.Lists.{count}
+use lib.ListN.{length, drop_of_length-le}
 use Rattle.records.specs.Places.{has}
 use Rattle.records.specs.House.{view, user, no_user}
 use Rattle.records.specs.declared.User.{User}

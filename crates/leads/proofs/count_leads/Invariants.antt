@@ -1,18 +1,12 @@
 -- `count_leads` meets its contract: the leads among those passed are counted, and the rest is left to count.
-use borrow.Author.Rules.{rules}
-use borrow.Author.Tests.{not-true, not-false}
-use Prim.Native.Nat.{ℕ, ◌+◌, ◌≤◌, ◌<◌, ◌-◌}
-use mathlib.Core.Path.{◌≡◌, refl, sym, ap, ◌∙◌}
-use mathlib.Core.Bool.{Bool, true, false}
-use native.Mathlib.Omega.{arith}
-use native.Mathlib.Nat.{zero-add}
-use lib.ListN.{drop, length, drop_of_length-le}
+use Prim.Native.Nat.{ℕ, ◌+◌, ◌≤◌, ◌-◌}
+use mathlib.Core.Path.{◌≡◌}
+use mathlib.Core.Bool.{Bool}
+use lib.ListN.{drop}
 use Rattle.records.specs.Lists.{count}
 use Rattle.records.specs.Places.{has}
-use Rattle.records.specs.House.{view, user, no_user}
+use Rattle.records.specs.House.{view}
 use Rattle.records.specs.declared.User.{User}
-use Rattle.records.proofs.Views.{count_users}
-use Rattle.leads.proofs.Counting.{count_next}
 use Rattle.leads.proofs.count_leads.Given as goal
 
 abbrev Leads : ℕ → User → Bool

@@ -1,5 +1,4 @@
 -- `open` meets its contract: each way through it is a law of `Ways`.
-use borrow.Author.Rules.{rules}
 use borrow.Author.Tests.{not-true, not-false}
 use mathlib.Core.Path.{sym, ◌∙◌}
 use Rattle.opening.proofs.Ways.{no_bytes, unknown, cut, breaks_rule, not_its_image, is_its_image}

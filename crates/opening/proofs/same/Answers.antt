@@ -1,11 +1,7 @@
 -- `same` meets its contract: the bytes passed are alike, so it is left to compare the rest.
-use borrow.Author.Rules.{rules}
-use Prim.Native.Nat.{◌-◌, ◌≤◌}
-use mathlib.Core.Path.{◌≡◌, refl, sym, ◌∙◌}
+use mathlib.Core.Path.{sym}
 use native.Mathlib.Omega.{arith}
-use lib.ListN.{length, drop}
-use Rattle.opening.specs.Opening.{same_bytes}
-use Rattle.opening.proofs.Alike.{other_length, same_on, same_off, same_end}
+use Rattle.opening.proofs.Alike.{other_length}
 use Rattle.opening.proofs.same.Goals as goal
 
 pub returns-then-b-end : goal.returns-then-b-end

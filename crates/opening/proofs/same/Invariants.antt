@@ -1,11 +1,8 @@
 -- `same` meets its contract: the bytes passed are alike, so it is left to compare the rest.
-use borrow.Author.Rules.{rules}
 use Prim.Native.Nat.{◌-◌, ◌≤◌}
-use mathlib.Core.Path.{◌≡◌, refl, sym, ◌∙◌}
-use native.Mathlib.Omega.{arith}
+use mathlib.Core.Path.{◌≡◌}
 use lib.ListN.{length, drop}
 use Rattle.opening.specs.Opening.{same_bytes}
-use Rattle.opening.proofs.Alike.{other_length, same_on, same_off, same_end}
 use Rattle.opening.proofs.same.Given as goal
 
 abbrev pub invariant-bytes : goal.invariant-bytes

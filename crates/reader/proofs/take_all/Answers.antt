@@ -1,12 +1,9 @@
 -- `take_all` meets its contract: the frames passed are taken in, and the walk goes on behind them.
-use borrow.Author.Rules.{rules}
-use Prim.Native.Nat.{◌+◌, ◌≤◌, ◌-◌}
-use mathlib.Core.Path.{◌≡◌, sym, ap, ◌∙◌}
+use Prim.Native.Nat.{◌+◌}
+use mathlib.Core.Path.{sym, ap, ◌∙◌}
 use native.Mathlib.Omega.{arith}
-use lib.ListN.{length, drop}
-use Rattle.records.specs.House.{House, view}
-use Rattle.records.specs.declared.Rule.{Rule}
-use Rattle.reader.specs.Reading.{Saved, saved, blank, walked}
+use lib.ListN.{drop}
+use Rattle.reader.specs.Reading.{Saved, walked}
 use Rattle.reader.proofs.Walking.{unknown_here, cut_here, whole_here, at_end_lem, part_all}
 use Rattle.reader.proofs.take_all.Goals as goal
 

@@ -1,5 +1,4 @@
 -- `labels` asks the level, and then the categories.
-use borrow.Author.Rules.{rules}
 use mathlib.Core.Path.{ap, ◌∙◌}
 use mathlib.Core.Bool.{not}
 use Rattle.reasons.proofs.Asking.{fails_first, holds_first}

@@ -1,5 +1,4 @@
 -- `keeps` meets its contract: the counts hold of any cells, and the other clauses are asked table by table.
-use borrow.Author.Rules.{rules}
 use Prim.Native.Nat.{◌≤◌}
 use mathlib.Core.Path.{◌∙◌}
 use mathlib.Core.Bool.{◌&&◌}

@@ -1,5 +1,4 @@
 -- `explain` reads the reason off the ruling.
-use borrow.Author.Rules.{rules}
 use mathlib.Core.Path.{◌∙◌}
 use Rattle.records.specs.House.{view}
 use Rattle.why.proofs.Ruled.{from_ruling}

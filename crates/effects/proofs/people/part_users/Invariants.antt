@@ -1,13 +1,8 @@
 -- `part_users` meets its contract: a map in place; where neither set changes, the user is the same.
-use borrow.Author.Rules.{rules}
-use native.Mathlib.Omega.{arith}
 use Prim.Native.Nat.{◌≤◌, ◌-◌}
-use mathlib.Core.Path.{◌∙◌, ap}
-use Rattle.records.specs.House.{view, no_user}
-use Rattle.records.proofs.Views.{count_users}
+use Rattle.records.specs.House.{view}
 use Rattle.effects.specs.Elements.{parted}
-use Rattle.sessions.proofs.InPlace.{users, Done, start, store, skip, finish_map}
-use Rattle.effects.proofs.Same.{same_user}
+use Rattle.sessions.proofs.InPlace.{users, Done}
 use Rattle.effects.proofs.people.part_users.Given as goal
 
 abbrev pub invariant-users : goal.invariant-users

@@ -1,18 +1,14 @@
 -- `cut_places` meets its contract: a map in place over the live drafts; while the answer is yes, each that was passed has a place.
-use borrow.Author.Rules.{rules}
 use native.Mathlib.Omega.{arith}
-use Prim.Native.Nat.{ℕ, ◌≤◌, ◌-◌}
-use mathlib.Core.Path.{◌≡◌, refl, sym, ◌∙◌, ap}
-use mathlib.Core.Bool.{true}
-use mathlib.Core.List.{List}
+use Prim.Native.Nat.{ℕ}
+use mathlib.Core.Path.{◌≡◌, sym, ◌∙◌, ap}
 use lib.ListN.{length, take}
 use lib.Seq.{take_all}
 use Rattle.records.specs.Lists.{filter}
 use Rattle.records.specs.House.{House, view, no_draft}
 use Rattle.records.specs.Lookups.{placed}
-use Rattle.records.specs.declared.Draft.{Draft}
 use Rattle.effects.specs.Elements.{unplaced}
-use Rattle.sessions.proofs.InPlace.{drafts, done_length, Done, start, store, finish_map}
+use Rattle.sessions.proofs.InPlace.{drafts, done_length, store, finish_map}
 use Rattle.effects.proofs.Lists.{stays_stored}
 use Rattle.effects.proofs.Same.{both}
 -- the first i drafts of h have a place

@@ -1,20 +1,13 @@
 -- `cut_places` meets its contract: a map in place over the live drafts; while the answer is yes, each that was passed has a place.
-use borrow.Author.Rules.{rules}
-use native.Mathlib.Omega.{arith}
 use Prim.Native.Nat.{ℕ, ◌≤◌, ◌-◌}
-use mathlib.Core.Path.{◌≡◌, refl, sym, ◌∙◌, ap}
+use mathlib.Core.Path.{◌≡◌}
 use mathlib.Core.Bool.{true}
-use mathlib.Core.List.{List}
-use lib.ListN.{length, take}
-use lib.Seq.{take_all}
+use lib.ListN.{take}
 use Rattle.records.specs.Lists.{filter}
-use Rattle.records.specs.House.{House, view, no_draft}
+use Rattle.records.specs.House.{House, view}
 use Rattle.records.specs.Lookups.{placed}
-use Rattle.records.specs.declared.Draft.{Draft}
 use Rattle.effects.specs.Elements.{unplaced}
-use Rattle.sessions.proofs.InPlace.{drafts, done_length, Done, start, store, finish_map}
-use Rattle.effects.proofs.Lists.{stays_stored}
-use Rattle.effects.proofs.Same.{both}
+use Rattle.sessions.proofs.InPlace.{drafts, Done}
 -- the first i drafts of h have a place
 use Rattle.effects.proofs.texts.cut_places.Given as goal
 

@@ -1,13 +1,11 @@
 -- `drafted` meets its contract: each draft passed has marked its script.
-use borrow.Author.Rules.{rules}
 use native.Mathlib.Omega.{arith}
-use Prim.Native.Nat.{ℕ, ◌≤◌, ◌-◌}
-use mathlib.Core.Path.{refl, ap}
+use Prim.Native.Nat.{ℕ}
+use mathlib.Core.Path.{refl}
 use mathlib.Core.Bool.{false}
 use lib.ListN.{get_or-replicate}
-use Rattle.records.specs.House.{view, no_draft}
 use Rattle.records.specs.declared.Draft.{Draft}
-use Rattle.effects.proofs.Lists.{Marked, none_marked, marked_more, marked_all}
+use Rattle.effects.proofs.Lists.{none_marked}
 use Rattle.effects.proofs.texts.drafted.Goals as goal
 
 abbrev script_of : Draft → ℕ

@@ -1,15 +1,10 @@
 -- `placed_front` meets its contract: every draft that it passed has a place.
-use borrow.Author.Rules.{rules}
-use borrow.Author.Tests.{ne_eqb}
-use native.Mathlib.Omega.{arith}
 use Prim.Native.Nat.{◌≤◌, ◌-◌}
-use mathlib.Core.Path.{◌≡◌, refl}
-use mathlib.Core.Bool.{true}
+use mathlib.Core.Path.{◌≡◌}
 use lib.ListN.{take}
 use Rattle.records.specs.Lists.{filter}
-use Rattle.records.specs.House.{view, draft_at, no_draft}
+use Rattle.records.specs.House.{view}
 use Rattle.records.specs.Lookups.{placed}
-use Rattle.effects.proofs.Lists.{stays_next}
 use Rattle.effects.proofs.texts.placed_front.Given as goal
 
 abbrev pub invariant-drafts : goal.invariant-drafts

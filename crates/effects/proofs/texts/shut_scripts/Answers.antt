@@ -1,14 +1,12 @@
 -- `shut_scripts` meets its contract: a map in place that stores only where something changes.
-use borrow.Author.Rules.{rules}
 use borrow.Author.Tests.{not-true, not-false}
 use native.Mathlib.Omega.{arith}
-use Prim.Native.Nat.{◌≤◌, ◌-◌}
 use mathlib.Core.Path.{◌≡◌, ◌∙◌, sym, ap}
 use mathlib.Core.Bool.{true, false}
 use Rattle.records.specs.House.{view, script, no_script}
 use Rattle.records.proofs.Views.{count_scripts}
-use Rattle.effects.specs.Elements.{shuts, shut}
-use Rattle.sessions.proofs.InPlace.{scripts, Done, start, store, skip, finish_map}
+use Rattle.effects.specs.Elements.{shuts}
+use Rattle.sessions.proofs.InPlace.{scripts, store, skip, finish_map}
 use Rattle.effects.proofs.texts.shut_scripts.Goals as goal
 
 pub scripts-preserved-then-not-shuts : goal.scripts-preserved-then-not-shuts

@@ -1,15 +1,12 @@
 -- `sweep_scripts` meets its contract: a map in place by a script's id; the loop leaves the drafts alone.
-use borrow.Author.Rules.{rules}
 use borrow.Author.Tests.{not-true, not-false}
 use native.Mathlib.Omega.{arith}
-use Prim.Native.Nat.{◌≤◌, ◌-◌}
 use mathlib.Core.Path.{◌≡◌, ◌∙◌, sym, ap}
 use mathlib.Core.Bool.{true, false}
 use Rattle.records.specs.House.{view, script, no_script}
 use Rattle.records.specs.declared.Script.{Script}
 use Rattle.records.proofs.Views.{count_scripts}
-use Rattle.effects.specs.Effects.{deserted}
-use Rattle.sessions.proofs.InPlace.{scripts, Done, start, store, skip, finish}
+use Rattle.sessions.proofs.InPlace.{scripts, store, skip, finish}
 use Rattle.effects.proofs.texts.sweep_scripts.Goals as goal
 
 pub scripts-preserved-then-not-script : goal.scripts-preserved-then-not-script

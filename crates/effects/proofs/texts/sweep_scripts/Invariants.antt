@@ -1,15 +1,8 @@
 -- `sweep_scripts` meets its contract: a map in place by a script's id; the loop leaves the drafts alone.
-use borrow.Author.Rules.{rules}
-use borrow.Author.Tests.{not-true, not-false}
-use native.Mathlib.Omega.{arith}
 use Prim.Native.Nat.{◌≤◌, ◌-◌}
-use mathlib.Core.Path.{◌≡◌, ◌∙◌, sym, ap}
-use mathlib.Core.Bool.{true, false}
-use Rattle.records.specs.House.{view, script, no_script}
-use Rattle.records.specs.declared.Script.{Script}
-use Rattle.records.proofs.Views.{count_scripts}
+use Rattle.records.specs.House.{view}
 use Rattle.effects.specs.Effects.{deserted}
-use Rattle.sessions.proofs.InPlace.{scripts, Done, start, store, skip, finish}
+use Rattle.sessions.proofs.InPlace.{scripts, Done}
 use Rattle.effects.proofs.texts.sweep_scripts.Given as goal
 
 abbrev pub invariant-scripts : goal.invariant-scripts

@@ -1,5 +1,4 @@
 -- `lay` meets its contract: the records of the counter and the rule, then each table behind the one before.
-use borrow.Author.Rules.{rules}
 use native.Mathlib.Omega.{arith}
 use Rattle.image.specs.Image.{image_of}
 use Rattle.image.proofs.Puts.{laid_laid}

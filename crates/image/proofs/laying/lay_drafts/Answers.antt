@@ -1,13 +1,12 @@
 -- `lay_drafts` meets its contract: after i turns the records of the first i drafts are laid.
-use borrow.Author.Rules.{rules}
-use Prim.Native.Nat.{◌-◌, ◌≤◌, ◌<◌}
+use Prim.Native.Nat.{◌<◌}
 use mathlib.Core.Path.{ap, ◌∙◌}
 use native.Mathlib.Omega.{arith}
 use lib.ListN.{length}
 use Rattle.records.specs.House.{view}
 use Rattle.image.specs.Forms.{written}
 use Rattle.image.specs.Image.{draft_form}
-use Rattle.image.proofs.Plans.{draft_plan, Upto, upto_none, upto_length, upto_all, upto_room, upto_more}
+use Rattle.image.proofs.Plans.{upto_more}
 use Rattle.image.proofs.laying.lay_drafts.Goals as goal
 
 pub drafts-preserved : goal.drafts-preserved

@@ -1,15 +1,14 @@
 -- `lay_rooms` meets its contract: before the turn of a room the records of the rooms below it are laid.
-use borrow.Author.Rules.{rules}
 use borrow.Author.Tests.{not-true, not-false}
-use Prim.Native.Nat.{◌-◌, ◌≤◌, ◌<◌}
-use mathlib.Core.Path.{◌≡◌, ap}
+use Prim.Native.Nat.{◌-◌, ◌<◌}
+use mathlib.Core.Path.{◌≡◌}
 use mathlib.Core.Bool.{true, false}
 use native.Mathlib.Omega.{arith}
 use lib.ListN.{length}
 use Rattle.records.specs.House.{view}
 use Rattle.records.specs.Places.{has, room_numbers}
 use Rattle.image.specs.Image.{room_form}
-use Rattle.image.proofs.Plans.{room_plan, room_at, Upto, upto_none, upto_length, upto_all, upto_room, upto_more, upto_skip, upto_at, if_there, if_absent}
+use Rattle.image.proofs.Plans.{room_at, upto_more, upto_skip, upto_at, if_there, if_absent}
 use Rattle.image.proofs.laying.lay_rooms.Goals as goal
 
 pub rooms-preserved-then-not-has : goal.rooms-preserved-then-not-has

@@ -1,14 +1,12 @@
 -- `lay_scripts` meets its contract: after i turns the records of the first i scripts are laid.
-use borrow.Author.Rules.{rules}
 use borrow.Author.Tests.{not-true, not-false}
-use Prim.Native.Nat.{◌-◌, ◌≤◌, ◌<◌}
+use Prim.Native.Nat.{◌<◌}
 use native.Mathlib.Omega.{arith}
-use mathlib.Core.Path.{ap}
 use lib.ListN.{length}
 use Rattle.records.specs.House.{view}
 use Rattle.records.proofs.Views.{count_scripts}
 use Rattle.image.specs.Image.{script_form}
-use Rattle.image.proofs.Plans.{script_plan, Upto, upto_none, upto_length, upto_all, upto_room, upto_more, upto_skip, if_there, if_absent}
+use Rattle.image.proofs.Plans.{upto_all, upto_more, upto_skip, if_there, if_absent}
 use Rattle.image.proofs.laying.lay_scripts.Goals as goal
 
 pub scripts-preserved-then-not-script : goal.scripts-preserved-then-not-script

@@ -1,5 +1,4 @@
 -- `disband` asks the lines of 0B in their order.
-use borrow.Author.Rules.{rules}
 use Rattle.judge.specs.Kinds.{disband_lines}
 use Rattle.reasons.proofs.Asking.{then}
 use Rattle.judge.proofs.people.disband.Goals as goal

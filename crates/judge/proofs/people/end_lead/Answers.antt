@@ -1,5 +1,4 @@
 -- `end_lead` asks the lines of 0D in their order.
-use borrow.Author.Rules.{rules}
 use Rattle.reasons.specs.Shared.{pair_numbers, pair_led}
 use Rattle.reasons.proofs.Asking.{then}
 use Rattle.judge.proofs.people.end_lead.Goals as goal

@@ -1,5 +1,4 @@
 -- `enrol` asks the lines of 01 in their order.
-use borrow.Author.Rules.{rules}
 use Rattle.judge.specs.Kinds.{enrol_where}
 use Rattle.reasons.proofs.Asking.{then}
 use Rattle.judge.proofs.people.enrol.Goals as goal

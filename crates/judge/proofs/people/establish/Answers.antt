@@ -1,5 +1,4 @@
 -- `establish` asks the lines of 02 in their order.
-use borrow.Author.Rules.{rules}
 use Rattle.judge.specs.Kinds.{establish_lines}
 use Rattle.reasons.proofs.Asking.{then}
 use Rattle.judge.proofs.people.establish.Goals as goal

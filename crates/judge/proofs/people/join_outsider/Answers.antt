@@ -1,5 +1,4 @@
 -- `join_outsider` asks the lines of 05 in their order.
-use borrow.Author.Rules.{rules}
 use Rattle.reasons.specs.Shared.{pair_numbers, pair_led}
 use Rattle.reasons.proofs.Asking.{then}
 use Rattle.judge.proofs.people.join_outsider.Goals as goal

@@ -1,5 +1,4 @@
 -- `join_staff` asks the lines of 03 in their order.
-use borrow.Author.Rules.{rules}
 use Rattle.reasons.specs.Shared.{pair_numbers, pair_led}
 use Rattle.reasons.proofs.Asking.{then}
 use Rattle.judge.proofs.people.join_staff.Goals as goal

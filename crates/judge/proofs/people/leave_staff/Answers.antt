@@ -1,5 +1,4 @@
 -- `leave_staff` asks the lines of 04 in their order.
-use borrow.Author.Rules.{rules}
 use Rattle.reasons.specs.Shared.{pair_numbers, pair_led}
 use Rattle.reasons.proofs.Asking.{then}
 use Rattle.judge.proofs.people.leave_staff.Goals as goal

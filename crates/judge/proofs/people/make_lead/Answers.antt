@@ -1,5 +1,4 @@
 -- `make_lead` asks the lines of 0C in their order.
-use borrow.Author.Rules.{rules}
 use Rattle.reasons.specs.Shared.{pair_numbers, pair_led}
 use Rattle.reasons.proofs.Asking.{then}
 use Rattle.judge.proofs.people.make_lead.Goals as goal

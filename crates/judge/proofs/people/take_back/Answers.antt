@@ -1,5 +1,4 @@
 -- `take_back` asks the lines of 20 in their order.
-use borrow.Author.Rules.{rules}
 use Rattle.judge.specs.Kinds.{take_back_lines}
 use Rattle.reasons.proofs.Asking.{then}
 use Rattle.judge.proofs.people.take_back.Goals as goal

@@ -1,5 +1,4 @@
 -- `create` asks the lines of 15 in their order.
-use borrow.Author.Rules.{rules}
 use Rattle.judge.specs.Kinds.{create_lines}
 use Rattle.reasons.proofs.Asking.{then}
 use Rattle.judge.proofs.sessions.create.Goals as goal

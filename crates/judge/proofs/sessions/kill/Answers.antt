@@ -1,5 +1,4 @@
 -- `kill` asks the lines of 16 in their order.
-use borrow.Author.Rules.{rules}
 use Rattle.judge.specs.Kinds.{kill_lines}
 use Rattle.reasons.proofs.Asking.{then}
 use Rattle.judge.proofs.sessions.kill.Goals as goal

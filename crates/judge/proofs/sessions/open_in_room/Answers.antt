@@ -1,5 +1,4 @@
 -- `open_in_room` asks the lines of 10 in their order.
-use borrow.Author.Rules.{rules}
 use Rattle.reasons.specs.Shared.{opens}
 use Rattle.reasons.proofs.Asking.{then}
 use Rattle.judge.proofs.sessions.open_in_room.Goals as goal

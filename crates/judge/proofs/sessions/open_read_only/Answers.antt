@@ -1,5 +1,4 @@
 -- `open_read_only` asks the lines of 12 in their order.
-use borrow.Author.Rules.{rules}
 use Rattle.reasons.specs.Shared.{opens}
 use Rattle.reasons.proofs.Asking.{then}
 use Rattle.judge.proofs.sessions.open_read_only.Goals as goal

@@ -1,5 +1,4 @@
 -- `read` asks the lines of 13 in their order.
-use borrow.Author.Rules.{rules}
 use mathlib.Core.List.{◌∷◌}
 use Rattle.records.specs.House.{view}
 use Rattle.reasons.specs.Lines.{sees_draft}

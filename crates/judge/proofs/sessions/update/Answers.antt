@@ -1,5 +1,4 @@
 -- `update` asks the lines of 14 in their order.
-use borrow.Author.Rules.{rules}
 use mathlib.Core.List.{[], ◌∷◌, ◌++◌}
 use Rattle.records.specs.House.{view}
 use Rattle.reasons.specs.Lines.{writes_in, seated_at, room_for_draft}

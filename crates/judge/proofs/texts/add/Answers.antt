@@ -1,5 +1,4 @@
 -- `add` asks the lines of 07 in their order.
-use borrow.Author.Rules.{rules}
 use mathlib.Core.List.{[], ◌∷◌}
 use Rattle.records.specs.House.{view, house}
 use Rattle.reasons.specs.Lines.{draft_among, draft_not_among}

@@ -1,5 +1,4 @@
 -- `import` asks the lines of 09 in their order.
-use borrow.Author.Rules.{rules}
 use Rattle.records.specs.House.{view}
 use Rattle.judge.specs.Kinds.{import_lines}
 use Rattle.reasons.proofs.Asking.{then, asked_in}

@@ -1,5 +1,4 @@
 -- `merge` asks the lines of 0A in their order.
-use borrow.Author.Rules.{rules}
 use mathlib.Core.List.{[], ◌∷◌}
 use Rattle.records.specs.House.{view, house}
 use Rattle.reasons.specs.Lines.{draft_among, origin_is}

@@ -1,5 +1,4 @@
 -- `remove` asks the lines of 08 in their order.
-use borrow.Author.Rules.{rules}
 use mathlib.Core.List.{[], ◌∷◌}
 use Rattle.records.specs.House.{view}
 use Rattle.reasons.specs.Lines.{draft_among}

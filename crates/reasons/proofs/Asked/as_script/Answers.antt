@@ -1,5 +1,4 @@
 -- `as_script` asks the session's level, then its categories.
-use borrow.Author.Rules.{rules}
 use mathlib.Core.Path.{◌∙◌}
 use Rattle.reasons.specs.Reasons.{a_session}
 use Rattle.reasons.specs.Asking.{asked}

@@ -1,9 +1,8 @@
 -- `draft_exists` looks for the draft where all before hold.
-use borrow.Author.Rules.{rules}
 use mathlib.Core.Path.{refl, sym}
 use Rattle.records.specs.House.{view}
 use Rattle.reasons.specs.Asking.{asked}
-use Rattle.reasons.proofs.Asking.{same_line, holds, stays, next, not_reached, reached_at, place_found}
+use Rattle.reasons.proofs.Asking.{same_line, holds, next, not_reached, reached_at, place_found}
 use Rattle.reasons.proofs.Lookups.{draft_found, draft_missing}
 use Rattle.reasons.proofs.Asked.draft_exists.Goals as goal
 

@@ -1,5 +1,4 @@
 -- `imports` asks the level of script 2, then its categories.
-use borrow.Author.Rules.{rules}
 use mathlib.Core.Path.{◌∙◌}
 use Rattle.reasons.specs.Reasons.{a_script}
 use Rattle.reasons.specs.Asking.{asked}

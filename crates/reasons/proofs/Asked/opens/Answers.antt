@@ -1,5 +1,4 @@
 -- `opens` asks the owner's level, then his categories.
-use borrow.Author.Rules.{rules}
 use mathlib.Core.Path.{◌∙◌}
 use Rattle.reasons.specs.Reasons.{a_user}
 use Rattle.reasons.specs.Asking.{asked}

@@ -1,5 +1,4 @@
 -- `pair_led` asks its lines in their order.
-use borrow.Author.Rules.{rules}
 use Rattle.reasons.specs.Shared.{pair_led}
 use Rattle.reasons.proofs.Asking.{joined}
 use Rattle.reasons.proofs.Asked.pair_led.Goals as goal

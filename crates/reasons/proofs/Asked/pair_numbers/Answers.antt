@@ -1,5 +1,4 @@
 -- `pair_numbers` asks its lines in their order.
-use borrow.Author.Rules.{rules}
 use Rattle.reasons.specs.Shared.{pair_numbers}
 use Rattle.reasons.proofs.Asking.{joined}
 use Rattle.reasons.proofs.Asked.pair_numbers.Goals as goal

@@ -1,8 +1,6 @@
 -- `script_exists` asks one line.
-use borrow.Author.Rules.{rules}
-use mathlib.Core.Path.{refl, sym}
-use Rattle.reasons.proofs.Asking.{same_line, holds, next}
-use Rattle.reasons.proofs.Lookups.{found, missing}
+use Rattle.reasons.proofs.Asking.{holds, next}
+use Rattle.reasons.proofs.Lookups.{found}
 use Rattle.reasons.proofs.Asked.script_exists.Goals as goal
 
 pub returns : goal.returns

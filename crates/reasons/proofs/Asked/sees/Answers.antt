@@ -1,7 +1,6 @@
 -- `sees` asks one line.
-use borrow.Author.Rules.{rules}
 use mathlib.Core.Path.{sym, ◌∙◌}
-use Rattle.reasons.proofs.Asking.{same_line, holds, next}
+use Rattle.reasons.proofs.Asking.{holds, next}
 use Rattle.reasons.proofs.Asked.sees.Goals as goal
 
 pub returns-then-sees : goal.returns-then-sees

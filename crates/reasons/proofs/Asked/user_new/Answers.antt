@@ -1,11 +1,10 @@
 -- `user_new` asks one line.
-use borrow.Author.Rules.{rules}
-use mathlib.Core.Path.{refl, sym, ap}
+use mathlib.Core.Path.{ap}
 use mathlib.Core.Bool.{not}
 use Rattle.records.specs.House.{view}
 use Rattle.conditions.specs.Conditions.{is_user}
-use Rattle.reasons.proofs.Asking.{same_line, holds, next}
-use Rattle.reasons.proofs.Lookups.{found, missing}
+use Rattle.reasons.proofs.Asking.{holds, next}
+use Rattle.reasons.proofs.Lookups.{missing}
 use Rattle.reasons.proofs.Asked.user_new.Goals as goal
 
 pub returns : goal.returns

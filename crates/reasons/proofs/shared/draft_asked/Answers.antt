@@ -1,5 +1,4 @@
 -- `draft_asked` asks its lines in their order.
-use borrow.Author.Rules.{rules}
 use mathlib.Core.Path.{refl, ap, ◌∙◌}
 use Rattle.records.specs.House.{view}
 use Rattle.reasons.specs.Shared.{draft_asked}

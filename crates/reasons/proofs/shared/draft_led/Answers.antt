@@ -1,5 +1,4 @@
 -- `draft_led` asks its lines in their order, and hands out the place where all hold.
-use borrow.Author.Rules.{rules}
 use Rattle.records.specs.House.{view}
 use Rattle.reasons.specs.Shared.{draft_led}
 use Rattle.reasons.proofs.Asking.{then, first_holds, not_reached, reached_at, asked_in, place_in}

@@ -1,5 +1,4 @@
 -- `put_rooms` stores cell 0, which lies outside the tables.
-use borrow.Author.Rules.{rules}
 use Rattle.records.proofs.Views.{view_rooms}
 use Rattle.records.proofs.people.put_rooms.Goals as goal
 

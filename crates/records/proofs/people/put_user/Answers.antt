@@ -1,5 +1,4 @@
 -- `put_user` stores the cells of one user, and past the table nothing.
-use borrow.Author.Rules.{rules}
 use native.Mathlib.Omega.{arith}
 use native.Mathlib.Nat.{add-zero}
 use Rattle.records.specs.House.{view, user_table}

@@ -1,5 +1,4 @@
 -- `user_at` reads the cells of one user, and past the table the absent one.
-use borrow.Author.Rules.{rules}
 use mathlib.Core.Path.{sym, ◌∙◌}
 use native.Mathlib.Omega.{arith}
 use native.Mathlib.Nat.{add-zero}

@@ -1,5 +1,4 @@
 -- `put_session` stores the cells of one session, and past the table nothing.
-use borrow.Author.Rules.{rules}
 use native.Mathlib.Omega.{arith}
 use native.Mathlib.Nat.{add-zero}
 use Rattle.records.specs.House.{view, session_table}

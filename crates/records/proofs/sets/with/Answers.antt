@@ -1,5 +1,4 @@
 -- `with` sets the bit of the place, and no bit for a place over 31.
-use borrow.Author.Rules.{rules}
 use mathlib.Core.Path.{sym}
 use Rattle.records.proofs.Places.{shifted, with_in, with_over}
 use Rattle.records.proofs.sets.with.Goals as goal

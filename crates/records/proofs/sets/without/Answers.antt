@@ -1,7 +1,5 @@
 -- `without` takes away what the set has of the bit.
-use borrow.Author.Rules.{rules}
 use mathlib.Core.Path.{sym}
-use lib.Bits.{and_le_l}
 use Rattle.records.proofs.Places.{shifted, without_in, without_over}
 use Rattle.records.proofs.sets.without.Goals as goal
 

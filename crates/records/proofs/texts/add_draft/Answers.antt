@@ -1,5 +1,4 @@
 -- `add_draft` stores a row behind the live ones and counts it; where 256 live it does nothing.
-use borrow.Author.Rules.{rules}
 use mathlib.Core.Path.{sym}
 use native.Mathlib.Omega.{arith}
 use Rattle.records.specs.House.{view}

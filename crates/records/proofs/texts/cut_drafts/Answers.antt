@@ -1,10 +1,5 @@
 -- `cut_drafts` lowers the count, and only where more live.
-use borrow.Author.Rules.{rules}
-use Prim.Native.Nat.{◌≤◌}
 use native.Mathlib.Omega.{arith}
-use lib.ListN.{length}
-use lib.Seq.{take_all}
-use Rattle.records.specs.House.{view}
 use Rattle.records.proofs.Views.{view_cut}
 use Rattle.records.proofs.texts.cut_drafts.Goals as goal
 

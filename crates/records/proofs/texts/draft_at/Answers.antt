@@ -1,11 +1,8 @@
 -- `draft_at` reads the cells of one live draft, and behind the last the absent one.
-use borrow.Author.Rules.{rules}
-use Prim.Native.Nat.{◌≤◌}
 use mathlib.Core.Path.{sym}
 use native.Mathlib.Omega.{arith}
 use native.Mathlib.Nat.{add-zero}
-use lib.ListN.{length, get_or-eq_default}
-use Rattle.records.specs.House.{view, draft_table, no_draft}
+use Rattle.records.specs.House.{draft_table, no_draft}
 use Rattle.records.proofs.Tables.{start}
 use Rattle.records.proofs.Views.{live_at}
 use Rattle.records.proofs.texts.draft_at.Goals as goal

@@ -1,5 +1,4 @@
 -- `draft_count` is the cell of the count, or 256 where that is less.
-use borrow.Author.Rules.{rules}
 use native.Mathlib.Omega.{arith}
 use Rattle.records.proofs.Views.{count_drafts}
 use Rattle.records.proofs.texts.draft_count.Goals as goal

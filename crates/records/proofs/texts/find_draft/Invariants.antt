@@ -1,12 +1,9 @@
 -- `find_draft` goes on from the drafts of other numbers: those passed are not the draft, so the search of the rest is the search of all.
-use borrow.Author.Rules.{rules}
-use Prim.Native.Nat.{◌≤◌, ◌<◌, ◌-◌}
-use mathlib.Core.Path.{◌≡◌, sym, ◌∙◌}
-use native.Mathlib.Omega.{arith}
-use lib.ListN.{drop, length}
-use Rattle.records.specs.House.{view, no_draft}
+use Prim.Native.Nat.{◌≤◌, ◌-◌}
+use mathlib.Core.Path.{◌≡◌}
+use lib.ListN.{drop}
+use Rattle.records.specs.House.{view}
 use Rattle.records.specs.Lookups.{find_draft, first_from, draft_is}
-use Rattle.records.proofs.Lookups.{first_more, first_end}
 use Rattle.records.proofs.texts.find_draft.Given as goal
 
 abbrev pub invariant-drafts : goal.invariant-drafts

@@ -1,10 +1,7 @@
 -- `others` passes drafts of other numbers, four a turn.
-use borrow.Author.Rules.{rules}
-use Prim.Native.Nat.{◌+◌, ◌≤◌, ◌-◌}
-use mathlib.Core.Path.{refl, sym, ◌∙◌}
-use native.Mathlib.Omega.{arith}
+use Prim.Native.Nat.{◌≤◌, ◌-◌}
 use Rattle.records.specs.House.{view}
-use Rattle.records.proofs.Lookups.{From, passed}
+use Rattle.records.proofs.Lookups.{From}
 use Rattle.records.proofs.texts.others.Given as goal
 
 abbrev pub invariant-fours : goal.invariant-fours

@@ -1,5 +1,4 @@
 -- `put_draft` stores one of the live drafts; behind the last the list stays as it is.
-use borrow.Author.Rules.{rules}
 use Prim.Native.Nat.{◌≤◌}
 use native.Mathlib.Omega.{arith}
 use lib.ListN.{length}

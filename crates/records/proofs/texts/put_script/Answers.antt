@@ -1,5 +1,4 @@
 -- `put_script` stores the cells of one script, and past the table nothing.
-use borrow.Author.Rules.{rules}
 use native.Mathlib.Omega.{arith}
 use native.Mathlib.Nat.{add-zero}
 use Rattle.records.specs.House.{view, script_table}

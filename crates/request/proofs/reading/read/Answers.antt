@@ -1,5 +1,4 @@
 -- `read` meets its contract: how far the request reaches and what it spells are together what is read.
-use borrow.Author.Rules.{rules}
 use mathlib.Core.Path.{◌≡◌, sym, ap, ◌∙◌}
 use mathlib.Core.List.{List}
 use Prim.Native.Nat.{ℕ}

@@ -1,5 +1,4 @@
 -- `start_of` meets its contract: each way through it is a law of `Ways`.
-use borrow.Author.Rules.{rules}
 use mathlib.Core.Path.{refl, ap, ◌∙◌}
 use Rattle.request.specs.Bytes.{◌#◌}
 use Rattle.request.specs.Kinds.{body_length}

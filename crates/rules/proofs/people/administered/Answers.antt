@@ -1,16 +1,13 @@
 -- `administered` meets its contract: no one passed is a house administrator, and it is kept whether anyone is there.
-use borrow.Author.Rules.{rules}
-use Prim.Native.Nat.{◌≤◌, ◌<◌, ◌-◌}
-use mathlib.Core.Path.{◌≡◌, refl, sym, ap, ◌∙◌}
+use Prim.Native.Nat.{◌≤◌}
+use mathlib.Core.Path.{◌≡◌, sym, ap, ◌∙◌}
 use mathlib.Core.Bool.{Bool, true, false, not, ◌&&◌, ◌||◌}
 use native.Mathlib.Omega.{arith}
-use lib.ListN.{drop, length, drop_of_length-le}
+use lib.ListN.{length, drop_of_length-le}
 use Rattle.records.specs.Lists.{any}
-use Rattle.records.specs.House.{view, user, no_user}
+use Rattle.records.specs.House.{view}
 use Rattle.records.specs.declared.User.{User}
 use Rattle.records.proofs.Views.{count_users}
-use Rattle.rules.proofs.Bools.{second}
-use Rattle.rules.proofs.Loops.{any_next, any_here, any_behind, either_or}
 -- no administrator: then it is fine where no one is there
 use Rattle.rules.proofs.people.administered.Goals as goal
 

@@ -1,13 +1,11 @@
 -- `all_led` meets its contract: each room passed has a lead.
-use borrow.Author.Rules.{rules}
-use borrow.Author.Tests.{not-true, not-false}
-use Prim.Native.Nat.{◌≤◌, ◌<◌, ◌-◌}
+use borrow.Author.Tests.{not-true}
 use mathlib.Core.Path.{◌≡◌, sym}
-use mathlib.Core.Bool.{true, false}
+use mathlib.Core.Bool.{false}
 use native.Mathlib.Omega.{arith}
 use Rattle.records.specs.House.{view}
 use Rattle.rules.specs.Rules.{is_led}
-use Rattle.rules.proofs.Loops.{Below, none_yet, one_more, every_room, not_this_room}
+use Rattle.rules.proofs.Loops.{not_this_room}
 use Rattle.rules.proofs.people.all_led.Goals as goal
 
 pub returns-then-not-is_led : goal.returns-then-not-is_led

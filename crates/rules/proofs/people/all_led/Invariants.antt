@@ -1,13 +1,10 @@
 -- `all_led` meets its contract: each room passed has a lead.
-use borrow.Author.Rules.{rules}
-use borrow.Author.Tests.{not-true, not-false}
-use Prim.Native.Nat.{◌≤◌, ◌<◌, ◌-◌}
-use mathlib.Core.Path.{◌≡◌, sym}
-use mathlib.Core.Bool.{true, false}
-use native.Mathlib.Omega.{arith}
+use Prim.Native.Nat.{◌≤◌, ◌-◌}
+use mathlib.Core.Path.{◌≡◌}
+use mathlib.Core.Bool.{true}
 use Rattle.records.specs.House.{view}
 use Rattle.rules.specs.Rules.{is_led}
-use Rattle.rules.proofs.Loops.{Below, none_yet, one_more, every_room, not_this_room}
+use Rattle.rules.proofs.Loops.{Below}
 use Rattle.rules.proofs.people.all_led.Given as goal
 
 abbrev pub invariant-rooms : goal.invariant-rooms

@@ -1,16 +1,15 @@
 -- `sessions_keep` meets its contract: those passed keep the rules, and the rest is left to ask.
-use borrow.Author.Rules.{rules}
-use borrow.Author.Tests.{not-true, not-false}
-use Prim.Native.Nat.{◌≤◌, ◌<◌, ◌-◌}
+use borrow.Author.Tests.{not-true}
+use Prim.Native.Nat.{◌≤◌, ◌<◌}
 use mathlib.Core.Path.{◌≡◌, refl, sym, ap, ◌∙◌}
-use mathlib.Core.Bool.{true, false}
+use mathlib.Core.Bool.{false}
 use native.Mathlib.Omega.{arith}
-use lib.ListN.{drop, length, drop_of_length-le}
+use lib.ListN.{length, drop_of_length-le}
 use Rattle.records.specs.Lists.{all}
 use Rattle.records.specs.House.{view, session, no_session}
 use Rattle.records.proofs.Views.{count_sessions}
 use Rattle.rules.specs.Walks.{session_keeps}
-use Rattle.rules.proofs.Loops.{passes, stops}
+use Rattle.rules.proofs.Loops.{stops}
 use Rattle.rules.proofs.sessions.sessions_keep.Goals as goal
 
 pub returns-then-not-session_keeps : goal.returns-then-not-session_keeps

@@ -1,15 +1,10 @@
 -- `drafted` meets its contract: none of those passed is a draft of the script, and the rest is left to ask.
-use borrow.Author.Rules.{rules}
-use borrow.Author.Tests.{eq-eqb, ne_eqb}
-use Prim.Native.Nat.{◌≤◌, ◌<◌, ◌-◌}
-use mathlib.Core.Path.{◌≡◌, refl, sym, ap, ◌∙◌}
-use mathlib.Core.Bool.{true, false}
-use native.Mathlib.Omega.{arith}
-use lib.ListN.{drop, length, drop_of_length-le}
+use Prim.Native.Nat.{◌≤◌, ◌-◌}
+use mathlib.Core.Path.{◌≡◌}
+use lib.ListN.{drop}
 use Rattle.records.specs.Lists.{any}
-use Rattle.records.specs.House.{view, draft_at, no_draft}
+use Rattle.records.specs.House.{view}
 use Rattle.records.specs.Lookups.{of_script}
-use Rattle.rules.proofs.Loops.{any_here, any_behind}
 use Rattle.rules.proofs.texts.drafted.Given as goal
 
 abbrev pub invariant-drafts : goal.invariant-drafts

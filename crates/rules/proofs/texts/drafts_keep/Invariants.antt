@@ -1,19 +1,14 @@
 -- `drafts_keep` meets its contract: those passed keep the rules, and the rest is left to ask, above the last number passed.
-use borrow.Author.Rules.{rules}
-use borrow.Author.Tests.{not-true, not-false}
-use Prim.Native.Nat.{ℕ, ◌+◌, ◌≤◌, ◌<◌, ◌-◌}
-use mathlib.Core.Path.{◌≡◌, refl, sym, ap, ◌∙◌}
-use mathlib.Core.Bool.{Bool, true, false, ◌&&◌}
-use mathlib.Core.List.{List, ◌∷◌}
-use native.Mathlib.Omega.{arith}
-use lib.Dec.{ltb, leb}
-use lib.ListN.{drop, length, drop_of_length-le}
+use Prim.Native.Nat.{ℕ, ◌≤◌, ◌-◌}
+use mathlib.Core.Path.{◌≡◌}
+use mathlib.Core.Bool.{Bool, ◌&&◌}
+use mathlib.Core.List.{List}
+use lib.ListN.{drop}
 use Rattle.records.specs.Lists.{all}
-use Rattle.records.specs.House.{House, view, draft_at, no_draft}
+use Rattle.records.specs.House.{House, view}
 use Rattle.records.specs.declared.Draft.{Draft}
 use Rattle.rules.specs.Rules.{ascending}
 use Rattle.rules.specs.Walks.{draft_keeps}
-use Rattle.rules.proofs.Loops.{between, passes, stops}
 -- of drafts with numbers above a number
 use Rattle.rules.proofs.texts.drafts_keep.Given as goal
 

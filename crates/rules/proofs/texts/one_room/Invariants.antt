@@ -1,13 +1,10 @@
 -- `one_room` meets its contract: the set is none of the rooms passed.
-use borrow.Author.Rules.{rules}
-use borrow.Author.Tests.{eq-eqb, ne_eqb}
-use Prim.Native.Nat.{ℕ, ◌≤◌, ◌<◌, ◌-◌}
-use mathlib.Core.Path.{◌≡◌, sym, ◌∙◌}
-use mathlib.Core.Bool.{Bool, true, false}
-use native.Mathlib.Omega.{arith}
+use Prim.Native.Nat.{ℕ, ◌≤◌, ◌-◌}
+use mathlib.Core.Path.{◌≡◌}
+use mathlib.Core.Bool.{Bool, false}
 use lib.Dec.{eqb}
 use Rattle.records.specs.Places.{only}
-use Rattle.rules.proofs.Loops.{Below, none_yet, one_more, this_room, no_room}
+use Rattle.rules.proofs.Loops.{Below}
 use Rattle.rules.proofs.texts.one_room.Given as goal
 
 abbrev Just : ℕ → ℕ → Bool

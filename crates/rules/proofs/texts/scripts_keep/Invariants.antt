@@ -1,20 +1,14 @@
 -- `scripts_keep` meets its contract: those passed keep the rules and have a draft, and the rest is left to ask.
-use borrow.Author.Rules.{rules}
-use borrow.Author.Tests.{not-true, not-false}
-use Prim.Native.Nat.{ℕ, suc, ◌+◌, ◌≤◌, ◌<◌, ◌-◌}
-use mathlib.Core.Path.{◌≡◌, refl, sym, ap, ◌∙◌}
-use mathlib.Core.Bool.{Bool, true, false, ◌&&◌}
-use mathlib.Core.List.{List, ◌∷◌}
-use native.Mathlib.Omega.{arith}
-use native.Mathlib.Numerals.{add-one}
-use lib.ListN.{drop, length, drop_of_length-le}
+use Prim.Native.Nat.{ℕ, ◌≤◌, ◌-◌}
+use mathlib.Core.Path.{◌≡◌}
+use mathlib.Core.Bool.{Bool, ◌&&◌}
+use mathlib.Core.List.{List}
+use lib.ListN.{drop}
 use Rattle.records.specs.Lists.{all, all_from}
-use Rattle.records.specs.House.{House, view, script, no_script}
+use Rattle.records.specs.House.{House, view}
 use Rattle.records.specs.declared.Script.{Script}
-use Rattle.records.proofs.Views.{count_scripts}
 use Rattle.rules.specs.Rules.{has_draft}
 use Rattle.rules.specs.Walks.{script_keeps}
-use Rattle.rules.proofs.Loops.{between, passes, stops}
 -- of scripts, the first being script i
 use Rattle.rules.proofs.texts.scripts_keep.Given as goal
 
