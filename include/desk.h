@@ -25,8 +25,8 @@
  * stack, do no input or output, and leave errno alone. Any number of threads may call
  * them at the same time, and so may a signal handler.
  *
- * Linking. `rt staticlib editor` writes target/staticlib/libeditor.a for x86-64
- * Linux. Nothing else is to be linked:
+ * Linking. `sh tools/library.sh editor` writes target/staticlib/libeditor.a for
+ * x86-64 Linux. Nothing else is to be linked:
  *
  *     cc -Iinclude captions.c target/staticlib/libeditor.a
  *

@@ -1,6 +1,6 @@
 #!/bin/sh
 # Holds the public contracts of the libraries to 01: "Show that any two results allowed by it coincide". Such a contract has no `requires`, and
-# either its `ensures` is an equation of the answer and one of each lent part, with entry values alone on the right, or
+# either its `ensures` clauses are an equation of the answer and one of each lent part, with entry values alone on the right, or
 # crates/promises/proofs/Determined.antt has a theorem for it, told there by a line
 #     -- two results of CRATE::FUNCTION: THEOREM
 set -eu
@@ -55,37 +55,30 @@ function pieces(s, sign,    n, i, from, depth, c) {
 }
 
 # What an equation with this left side determines: `answer`, or the name of the lent part, whole or as what its cells show.
-function determines(left, answer) {
-    if (left == answer) return "answer"
-    if (left ~ /^(view|past) \(now \([a-z0-9_]+ \.exit\)\)$/) { sub(/^[a-z]+ \(/, "", left); sub(/\)$/, "", left) }
-    if (left !~ /^now \([a-z0-9_]+ \.exit\)$/) return ""
-    sub(/^now \(/, "", left)
-    sub(/ .*/, "", left)
+function determines(left) {
+    if (left == "result") return "answer"
+    sub(/^(view|past) /, "", left)
+    if (left !~ /^[a-z0-9_]+\.new$/) return ""
+    sub(/\.new$/, "", left)
     return left
 }
 
 # Whether a right side names the answer or anything at exit.
-function looks_ahead(right, answer,    n, i, word) {
-    n = split(right, word, /[ ()]+/)
-    for (i = 1; i <= n; i++) if (word[i] == answer || word[i] == ".exit") return 1
+function looks_ahead(right,    n, i, word) {
+    n = split(right, word, /[^A-Za-z0-9_.]+/)
+    for (i = 1; i <= n; i++) if (word[i] ~ /^\.*result(\.|$)/ || word[i] ~ /\.new(\.|$)/) return 1
     return 0
 }
 
 # Why the body of an `ensures` is not made of equations, or nothing; what they determine goes to `known`.
-function unlike(body,    answer, n, i, part, what) {
-    if (body !~ /^ *λ [^ ]+\. *⌜.*⌝ *$/) return "has an `ensures` that is not of the form λ r. ⌜ .. ⌝"
-    answer = body
-    sub(/^ *λ /, "", answer)
-    sub(/\..*/, "", answer)
-    body = substr(body, index(body, "⌜") + length("⌜"))
-    sub(/⌝ *$/, "", body)
+function unlike(body,    n, i, part, what) {
     n = pieces(bare(body), "×")
     for (i = 1; i <= n; i++) part[i] = piece[i]
     for (i = 1; i <= n; i++) {
         if (pieces(part[i], "→") != 1 || pieces(part[i], "⊎") != 1 || pieces(part[i], "≡") != 2) return "has a part that is no equation: " part[i]
-        what = determines(piece[1], answer)
+        what = determines(piece[1])
         if (what == "") return "has an equation of something else than the answer or a lent part: " piece[1]
-        if (looks_ahead(piece[2], answer)) return "has more than entry values on the right: " piece[2]
+        if (looks_ahead(piece[2])) return "has more than entry values on the right: " piece[2]
         known[what] = 1
     }
     return ""
@@ -94,6 +87,7 @@ function unlike(body,    answer, n, i, part, what) {
 # Why the contract of a function with these parameters and this header is no equation, or `equation`.
 function judged(params, header, clauses,    i, why, lent, name, found) {
     if (header ~ /requires/) return "has a `requires`, so that it speaks of some inputs alone"
+    if (header ~ /ensures\*/) return "has a starred `ensures`"
     if (clauses == 0) return "has no `ensures`"
     split("", known)
     for (i = 1; i <= clauses; i++) if ((why = unlike(clause[i])) != "") return why
@@ -124,11 +118,11 @@ END {
         header = ""
         clauses = 0
         split("", clause)
-        # clauses stand between the parameters and the body
-        while ((i = index(text, "{")) > 0 && substr(text, 1, i - 1) ~ /(ensures|requires) *$/) {
+        # clauses stand between the parameters and the body, each with a name or without
+        while ((i = index(text, "{")) > 0 && substr(text, 1, i - 1) ~ /(^|[ )>])(ensures|requires)\*?( +[a-z][a-z0-9_]*)? *$/) {
             header = header substr(text, 1, i - 1)
             j = closing(text, i)
-            if (substr(text, 1, i - 1) ~ /ensures *$/) clause[++clauses] = substr(text, i + 1, j - i - 1)
+            if (substr(text, 1, i - 1) ~ /(^|[ )>])ensures\*?( +[a-z][a-z0-9_]*)? *$/) clause[++clauses] = substr(text, i + 1, j - i - 1)
             text = substr(text, j + 1)
         }
         header = header substr(text, 1, i - 1)
@@ -137,7 +131,8 @@ END {
 }
 AWK
 
-sed -n 's/^\([a-z][a-z0-9_]*\):.*/\1/p' crates.txt > "$work/crates"
+sed -n 's/^\([a-z][a-z0-9_]*\)\( staticlib\)\{0,1\}:.*/\1/p' crates.txt > "$work/crates"
+[ "$(wc -l < "$work/crates")" -eq "$(grep -c '^[^#]' crates.txt)" ] || { echo "determined: a line of crates.txt was not read" >&2; exit 1; }
 while IFS= read -r crate; do
     # a program has no caller
     [ -f "crates/$crate/src/main.rt" ] && continue

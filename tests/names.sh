@@ -33,7 +33,8 @@ while IFS= read -r file; do
     esac
 done < "$work/files" > "$work/defined"
 [ -s "$work/defined" ] || { echo "names: no definition found" >&2; exit 1; }
-sed -n 's/^\([a-z_]*\):.*/\1/p' crates.txt > "$work/crates"
+sed -n 's/^\([a-z_]*\)\( staticlib\)\{0,1\}:.*/\1/p' crates.txt > "$work/crates"
+[ "$(wc -l < "$work/crates")" -eq "$(grep -c '^[^#]' crates.txt)" ] || { echo "names: a line of crates.txt was not read" >&2; exit 1; }
 ls crates/*/must-fail/*.edit | sed 's,crates/\(.*\)/must-fail/\(.*\)\.edit,\1 \2,' > "$work/edits"
 
 # ---- each document in units: a row of a table behind the table's first row, or a paragraph or point of a list in one line
@@ -87,7 +88,9 @@ awk -F '\t' -v defined="$work/defined" -v crates="$work/crates" -v edits="$work/
         rest = text; sub(/^.* ~~ /, "", rest)
         while (match(rest, /`[^`]*`/)) {
             name = substr(rest, RSTART + 1, RLENGTH - 2); rest = substr(rest, RSTART + RLENGTH)
-            if (name !~ /^[A-Za-z0-9_:-]+$/ || name in said || name in crate || name in kit) continue
+            if (name !~ /^[A-Za-z0-9_:-]+$/ || name in said || name in kit) continue
+            # a theorem is named as the crate kept is, which is written crates/kept
+            if (name in crate && name != "kept") continue
             names++
             if (name ~ /::/) {
                 split(name, f, "::"); last = name; sub(/.*::/, "", last)

@@ -15,8 +15,7 @@ const BAD_LABEL: u32 = 3;
 const BAD_JOIN: u32 = 0xC300_0000;
 
 // Both labels are unpacked before anything is asked of one, so that a bad label wins over an end.
-#[unsafe(no_mangle)]
-pub extern "C" fn desk_dominates(a: u32, b: u32) -> u32
+pub fn desk_dominates(a: u32, b: u32) -> u32
     ensures { result ≡ dominance_answer a b }
 {
     let Unpacked::Good(over) = Label::unpack(a) else {
@@ -29,8 +28,7 @@ pub extern "C" fn desk_dominates(a: u32, b: u32) -> u32
     if failing.nothing() { YES } else { NO }
 }
 
-#[unsafe(no_mangle)]
-pub extern "C" fn desk_join(a: u32, b: u32) -> u32
+pub fn desk_join(a: u32, b: u32) -> u32
     ensures { result ≡ join_answer a b }
 {
     let Unpacked::Good(one) = Label::unpack(a) else {
@@ -43,8 +41,7 @@ pub extern "C" fn desk_join(a: u32, b: u32) -> u32
 }
 
 // The kind is a full number: cut to a byte, 0x101 would pass for Enrol.
-#[unsafe(no_mangle)]
-pub extern "C" fn desk_body_length(kind: u32) -> u32
+pub fn desk_body_length(kind: u32) -> u32
     ensures { result ≡ body_length_answer kind }
 {
     request::body_length(kind)

@@ -76,8 +76,7 @@ fn save_length(saved: Written) -> usize
 }
 
 // Without records and kept changes.
-#[unsafe(no_mangle)]
-pub extern "C" fn desk_open_parts(
+pub fn desk_open_parts(
     base: &mut Cells,
     log: &mut Log,
     current: &mut Cells,
@@ -103,8 +102,7 @@ pub extern "C" fn desk_open_parts(
     refusal_of(answer)
 }
 
-#[unsafe(no_mangle)]
-pub extern "C" fn desk_batch_parts(
+pub fn desk_batch_parts(
     base: &mut Cells,
     log: &mut Log,
     current: &mut Cells,
@@ -126,8 +124,7 @@ pub extern "C" fn desk_batch_parts(
     batch::stop_number(stop) as u32
 }
 
-#[unsafe(no_mangle)]
-pub extern "C" fn desk_why_parts(
+pub fn desk_why_parts(
     log: &Log,
     current: &Cells,
     last: u32,
@@ -145,8 +142,7 @@ pub extern "C" fn desk_why_parts(
     number
 }
 
-#[unsafe(no_mangle)]
-pub extern "C" fn desk_save_parts(
+pub fn desk_save_parts(
     current: &Cells,
     last: u32,
     rule: u32,
@@ -161,8 +157,7 @@ pub extern "C" fn desk_save_parts(
     save_number(saved)
 }
 
-#[unsafe(no_mangle)]
-pub extern "C" fn desk_load_parts(
+pub fn desk_load_parts(
     base: &mut Cells,
     log: &mut Log,
     current: &mut Cells,
@@ -179,38 +174,33 @@ pub extern "C" fn desk_load_parts(
     load_number(answer)
 }
 
-#[unsafe(no_mangle)]
-pub extern "C" fn desk_kept_parts(log: &Log) -> u32
+pub fn desk_kept_parts(log: &Log) -> u32
     ensures { result ≡ length (past log.now) }
 {
     kept::kept_count(log) as u32
 }
 
-#[unsafe(no_mangle)]
-pub extern "C" fn desk_rule_parts(rule: u32) -> u32
+pub fn desk_rule_parts(rule: u32) -> u32
     ensures { result ≡ rule_number (held_rule rule) }
 {
     let held = rule_of(rule);
     rule_number(held)
 }
 
-// The three of the crate editor, which a library of this crate would not have otherwise.
-#[unsafe(no_mangle)]
-pub extern "C" fn desk_dominates(a: u32, b: u32) -> u32
+// The three of the crate editor, which the library for C (crates/house_c) has as well.
+pub fn desk_dominates(a: u32, b: u32) -> u32
     ensures { result ≡ dominance_answer a b }
 {
     editor::desk_dominates(a, b)
 }
 
-#[unsafe(no_mangle)]
-pub extern "C" fn desk_join(a: u32, b: u32) -> u32
+pub fn desk_join(a: u32, b: u32) -> u32
     ensures { result ≡ join_answer a b }
 {
     editor::desk_join(a, b)
 }
 
-#[unsafe(no_mangle)]
-pub extern "C" fn desk_body_length(kind: u32) -> u32
+pub fn desk_body_length(kind: u32) -> u32
     ensures { result ≡ body_length_answer kind }
 {
     editor::desk_body_length(kind)

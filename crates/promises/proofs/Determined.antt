@@ -108,22 +108,25 @@ pub one_ran_desk : (rule : Rule) (d : State) (requests answers : List ℕ) (plac
     → ((shown_of r.desk ≡ shown_of s.desk) × ((r.ran ≡ s.ran) × (answers₁ ≡ answers₂))) × (r.desk.rule ≡ s.desk.rule)
 one_ran_desk rule d requests answers place r s answers₁ answers₂ p q = (one_result p.0 q.0, determined p.1 q.1)
 
--- ---- from C: r and s are the numbers answered, rule₁ and rule₂ those of the desk's rule
+-- ---- from C: r and s are the numbers answered, rule₁ and rule₂ those of the desk's rule. The exports of house_c have the contracts of house, word for word.
 one_left : {o : Left} (d₁ d₂ : State) (r s rule₁ rule₂ : ℕ) → left r d₁ rule₁ ≡ o → left s d₂ rule₂ ≡ o → (r ≡ s) × (d₁ ≡ d₂) × (rule₁ ≡ rule₂)
 one_left d₁ d₂ r s rule₁ rule₂ p q =
     (ap (λ (l : Left). l.answer) (determined p q), ap (λ (l : Left). l.desk) (determined p q), ap (λ (l : Left). l.rule) (determined p q))
 
 -- two results of house::desk_open_parts: one_house_opened
+-- two results of house_c::desk_open_parts: one_house_opened
 pub one_house_opened : (start under : ℕ) (d₁ d₂ : State) (r s rule₁ rule₂ : ℕ)
     → left r d₁ rule₁ ≡ as_opened (opened_under start under) → left s d₂ rule₂ ≡ as_opened (opened_under start under) → (r ≡ s) × (d₁ ≡ d₂) × (rule₁ ≡ rule₂)
 one_house_opened start under d₁ d₂ r s rule₁ rule₂ p q = one_left d₁ d₂ r s rule₁ rule₂ p q
 
 -- two results of house::desk_load_parts: one_house_loaded
+-- two results of house_c::desk_load_parts: one_house_loaded
 pub one_house_loaded : (image : List ℕ) (d₁ d₂ : State) (r s rule₁ rule₂ : ℕ)
     → left r d₁ rule₁ ≡ as_loaded (desk_by image) → left s d₂ rule₂ ≡ as_loaded (desk_by image) → (r ≡ s) × (d₁ ≡ d₂) × (rule₁ ≡ rule₂)
 one_house_loaded image d₁ d₂ r s rule₁ rule₂ p q = one_left d₁ d₂ r s rule₁ rule₂ p q
 
 -- two results of house::desk_batch_parts: one_house_batch
+-- two results of house_c::desk_batch_parts: one_house_batch
 pub one_house_batch : (rule : Rule) (d : State) (requests answers : List ℕ) (place : ℕ) (d₁ d₂ : State) (r s used₁ used₂ written₁ written₂ : ℕ) (answers₁ answers₂ : List ℕ)
     → BatchCall rule d requests answers place d₁ r used₁ written₁ answers₁ → BatchCall rule d requests answers place d₂ s used₂ written₂ answers₂
     → (r ≡ s) × (d₁ ≡ d₂) × (used₁ ≡ used₂) × (written₁ ≡ written₂) × (answers₁ ≡ answers₂)
