@@ -5,7 +5,7 @@
 #
 #   [LIBRARY=libhouse.a] sh bench/run.sh [REQUESTS [RUNS]]
 #
-# The archive is built by rt where LIBRARY does not name one.
+# The archive is built by tools/library.sh where LIBRARY does not name one.
 # Needs gcc, x86-64, and what tests/model needs, from which the mixed stream comes. A quiet machine is up to you.
 set -eu
 root=$(CDPATH='' cd -- "$(dirname -- "$0")/.." && pwd -P)
@@ -19,13 +19,13 @@ trap 'rm -rf "$work"' EXIT
 trap 'exit 1' HUP INT TERM
 
 "$root/desk" </dev/null >/dev/null
-desk=$root/target/bin/desk
+desk=$root/crates/desk/out/desk
 gcc -std=c99 -O2 -D_DEFAULT_SOURCE "$root/bench/desk.c" -o "$work/c"
 gcc -std=c99 -O2 "$root/bench/streams.c" -o "$work/streams"
 gcc -std=c99 -O2 -D_DEFAULT_SOURCE "$root/bench/starts.c" -o "$work/starts"
 library=${LIBRARY:-}
 if [ -z "$library" ]; then
-    (cd "$root" && rt staticlib house) </dev/null >&2
+    sh "$root/tools/library.sh" house
     library=$root/target/staticlib/libhouse.a
 fi
 gcc -std=c99 -O2 -D_DEFAULT_SOURCE -I"$root/include" "$root/bench/batch.c" "$library" -o "$work/batch"

@@ -1,5 +1,5 @@
 #!/bin/sh
-# Builds tests/editor.c with include/desk.h and the static library of the crate editor, once as C and once as C++, and runs both; and
+# Builds tests/editor.c with include/desk.h and the static library of the crate editor_c, once as C and once as C++, and runs both; and
 # tests/kinds.c, as C.
 # Looks at the sections of the library's objects, and of a program that calls desk_body_length: it brings code and no read-only data (02, L5).
 # Takes nothing but the kit: its clang, archiver, linker, loader and C library and, on aarch64, its emulator; and od and awk.
@@ -16,9 +16,9 @@ CDPATH='' cd -- "$(dirname -- "$0")/.." || stop "cannot enter the repository"
 
 . tests/kit.sh
 
-rt staticlib editor || stop "rt staticlib editor failed"
+sh tools/library.sh editor || stop "tools/library.sh editor failed"
 library=target/staticlib/libeditor.a
-[ -s "$library" ] || stop "rt staticlib editor left no $library"
+[ -s "$library" ] || stop "tools/library.sh editor left no $library"
 out=target/editor
 rm -rf "$out"
 mkdir -p "$out" || stop "cannot make $out"

@@ -1,5 +1,5 @@
 #!/bin/sh
-# Tests the static library of the crate house from C and C++, through include/house.h:
+# Tests the static library of the crate house_c from C and C++, through include/house.h:
 #   - the header stands alone, in each C and C++ that it is for, without a warning;
 #   - the library defines the functions of the two headers, wants memcpy, memmove and memset, and has no data that is written to;
 #   - tests/house.c, tests/house_more.c and tests/house_random.c, as C and as C++, compare each call with what the documents say of it;
@@ -28,7 +28,7 @@ failed() {
 . tests/kit.sh
 
 library=${LIBRARY:-target/staticlib/libhouse.a}
-if [ -z "${LIBRARY:-}" ]; then rt staticlib house || stop "rt staticlib house failed"; fi
+if [ -z "${LIBRARY:-}" ]; then sh tools/library.sh house || stop "tools/library.sh house failed"; fi
 [ -s "$library" ] || stop "there is no $library"
 case $library in /*) ;; *) library=$PWD/$library ;; esac
 # Seeds of one second never meet those of the next.

@@ -21,7 +21,7 @@ trap 'rm -rf "$work"' EXIT
 trap 'exit 1' HUP INT TERM
 
 # A program named by the caller may be anything that runs here; the project's own may need the emulator, and was built just now.
-if [ -n "${DESK:-}" ]; then set -- "$desk"; else set -- sh "$root/tools/run-program.sh" "$root/target/bin/desk"; fi
+if [ -n "${DESK:-}" ]; then set -- "$desk"; else set -- sh "$root/tools/run-program.sh" "$root/crates/desk/out/desk"; fi
 
 # The stored images are those that the list of cases says.
 mkdir "$work/made" "$work/files"

@@ -67,7 +67,7 @@ if [ "$(uname -m)" = x86_64 ]; then
     headers=$prefix/include/desk-house
 else
     by=kit
-    rt staticlib house || stop "rt staticlib house failed"
+    sh tools/library.sh house || stop "tools/library.sh house failed"
     check "tools/install.sh refuses another machine than x86-64" fails 2 sh tools/install.sh "$prefix"
     headers=$root/include
 fi

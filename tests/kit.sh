@@ -3,7 +3,7 @@
 command -v rt >/dev/null || stop "the kit's command rt is not on the PATH"
 guide=$(rt doc) || stop "rt doc failed, so the kit is not found"
 machine=$(uname -m)
-own=${guide%/docs/*}/on/$machine
+own=${guide%/*}
 tools=$own/toolchain
 loader=$tools/lib/ld-linux-x86-64.so.2
 # the programs are for x86-64

@@ -5,7 +5,7 @@
 set -eu
 root=$(CDPATH='' cd -- "$(dirname -- "$0")/.." && pwd -P)
 desk=${DESK:-$root/desk}
-edges=${EDGES:-$root/target/bin/edges}
+edges=${EDGES:-$root/crates/edges/out/edges}
 count=${COUNT:-1000}
 runs=${RUNS:-300}
 long=50000
@@ -22,7 +22,7 @@ run_edges() {
 # Once before all: a program that can't start, or builds itself first, is found here and not in every run.
 [ -x "$desk" ] || fail "no program at $desk"
 "$desk" < /dev/null > /dev/null || fail "$desk does not run"
-[ -x "$edges" ] || fail "no program at $edges; rt check edges builds it"
+[ -x "$edges" ] || fail "no program at $edges; rt ci builds it, and so does rt run in crates/edges"
 run_edges < /dev/null > /dev/null || fail "$edges does not run"
 model=$(sh "$root/tests/build-model.sh") || fail "the model was not built"
 

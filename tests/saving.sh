@@ -24,7 +24,7 @@ trap clean EXIT
 trap 'exit 1' HUP INT TERM
 
 # A program named by the caller may be anything that runs here; the project's own may need the emulator, and was built just now.
-if [ -n "${DESK:-}" ]; then set -- "$desk"; else set -- sh "$root/tools/run-program.sh" "$root/target/bin/desk"; fi
+if [ -n "${DESK:-}" ]; then set -- "$desk"; else set -- sh "$root/tools/run-program.sh" "$root/crates/desk/out/desk"; fi
 mkdir "$work/killed"
 killed=$("$model" killed "$work/killed" -- "$@") || fail "killed while it saved"
 

@@ -7,7 +7,7 @@
 #   PREFIX/lib/libhouse.a
 #   PREFIX/lib/pkgconfig/desk-house.pc
 #
-# The library is built by `rt staticlib house`, which proves it first; LIBRARY=FILE takes that archive instead, and needs no kit.
+# The library is built by tools/library.sh, which proves it first; LIBRARY=FILE takes that archive instead, and needs no kit.
 # DESTDIR=FOLDER puts everything below that folder, for a package; desk-house.pc names PREFIX all the same.
 #
 # Exit status: 0 installed; 2 not installed: standard error says why, and what stood there before stands there still.
@@ -36,7 +36,7 @@ root=$(CDPATH='' cd -- "$(dirname -- "$0")/.." && pwd -P) || die "cannot enter t
 if [ -z "$library" ]; then
     command -v rt >/dev/null || die "there is no rt on the PATH to build the library; LIBRARY=FILE takes one that is built"
     echo "install: proving and building the library; this takes some minutes the first time" >&2
-    (cd "$root" && rt staticlib house) </dev/null >&2 || die "rt staticlib house failed, so nothing was installed"
+    sh "$root/tools/library.sh" house || die "tools/library.sh house failed, so nothing was installed"
     library=$root/target/staticlib/libhouse.a
 fi
 [ -f "$library" ] && [ -r "$library" ] || die "there is no archive at $library"

@@ -16,7 +16,7 @@ shift
 # Programs are compiled for x86-64: elsewhere the kit's emulator runs them, with the kit's C library.
 if [ "$(uname -m)" != x86_64 ]; then
     doc=$(rt doc) || die "there is no rt on the PATH, by which to find the kit's emulator"
-    tools=$(dirname -- "$(dirname -- "$doc")")/on/$(uname -m)/toolchain
+    tools=$(dirname -- "$doc")/toolchain
     [ -x "$tools/bin/qemu-x86_64" ] || die "the kit has no emulator for this machine, $(uname -m)"
     # a caller's own settings of an emulator
     for name in $(env | sed -n 's/^\(QEMU_[A-Za-z0-9_]*\)=.*/\1/p'); do unset "$name"; done
