@@ -28,8 +28,8 @@ fi
 # A reader that goes away does not end the program, which may have something to save: its write fails, with a reason.
 trap '' PIPE
 
-# A program in Rattle has no exit status of its own: what it says on standard error, just before it ends, is the only sign
-# of a failed read or write.
+# What a program says on standard error, just before it ends, is the sign of a failed read or write: its status is then 1 at least,
+# whatever status of its own it ends with.
 exec 3>&1
 said=$("$@" 2>&1 >&3 3>&-)
 status=$?
