@@ -125,8 +125,9 @@ END {
             if (substr(text, 1, i - 1) ~ /(^|[ )>])ensures\*?( +[a-z][a-z0-9_]*)? *$/) clause[++clauses] = substr(text, i + 1, j - i - 1)
             text = substr(text, j + 1)
         }
+        other = header != "" && substr(text, 1, i - 1) ~ /[^ \t]/
         header = header substr(text, 1, i - 1)
-        print crate "::" name "\t" judged(params, header, clauses)
+        print crate "::" name "\t" (other ? "has a clause of another kind" : judged(params, header, clauses))
     }
 }
 AWK
