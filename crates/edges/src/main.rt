@@ -5,37 +5,37 @@
 
 ghost use Rattle.std.specs.Prelude.{◌<◌, ◌≤◌, length};
 
-use libc::{STDIN_FILENO, STDOUT_FILENO};
 use kept::Log;
 use records::{Cells, Rule};
+use std::io;
+use std::io::{BufWriter, Read, Write};
 
 // ---- what is written
-fn say(text: &[u8]) {
-    io::write_all(STDOUT_FILENO, text);
+fn say<W: Write>(out: &mut W, text: &[u8]) -> io::Result<()> {
+    out.write_all(text)
 }
 
-fn number(n: u64) {
-    say(b" ");
-    io::print_decimal(STDOUT_FILENO, n);
+fn number<W: Write>(out: &mut W, n: u64) -> io::Result<()> {
+    write!(out, " {n}")
 }
 
-fn byte(b: u8) {
-    io::print_hex(STDOUT_FILENO, b as u64, 2);
+fn byte<W: Write>(out: &mut W, b: u8) -> io::Result<()> {
+    write!(out, "{b:02x}")
 }
 
-fn bytes(answers: &[u8]) {
-    for i in 0..answers.len() {
-        byte(answers[i]);
+fn bytes<W: Write>(out: &mut W, answers: &[u8]) -> io::Result<()> {
+    for b in answers {
+        byte(out, *b)?;
     }
+    Ok(())
 }
 
-fn answer_room(answers: &[u8]) {
-    say(b" ");
+fn answer_room<W: Write>(out: &mut W, answers: &[u8]) -> io::Result<()> {
+    say(out, b" ")?;
     if answers.len() == 0 {
-        say(b"-");
-        return;
+        return say(out, b"-");
     }
-    bytes(answers);
+    bytes(out, answers)
 }
 
 // ---- what is read
@@ -86,8 +86,8 @@ fn with_digit(n: u64, digit: u8) -> u64 {
 
 fn decimal(word: &[u8]) -> u64 {
     let mut n: u64 = 0;
-    for i in 0..word.len() {
-        n = with_digit(n, word[i]);
+    for digit in word {
+        n = with_digit(n, *digit);
     }
     n
 }
@@ -131,8 +131,8 @@ fn hex(word: &[u8], out: &mut [u8]) -> usize
     ensures { result ≤ 4096 }
 {
     let mut digits: usize = 0;
-    for i in 0..word.len() {
-        digits = put_digit(out, digits, word[i]);
+    for digit in word {
+        digits = put_digit(out, digits, *digit);
     }
     digits / 2
 }
@@ -173,7 +173,8 @@ fn open_anew(
 }
 
 // Runs the batch, and writes what it left.
-fn run_batch(
+fn run_batch<W: Write>(
+    out: &mut W,
     base: &mut Cells,
     log: &mut Log,
     current: &mut Cells,
@@ -182,25 +183,26 @@ fn run_batch(
     requests: &[u8],
     answers: &mut [u8],
     place: usize,
-) {
+) -> io::Result<()> {
     let ran = batch::run(base, log, current, last, rule, requests, answers, place);
     let stop = ran.stop;
-    number(batch::stop_number(stop) as u64);
-    number(ran.used as u64);
-    number(ran.written as u64);
-    number(*last as u64);
-    answer_room(answers);
+    number(out, batch::stop_number(stop) as u64)?;
+    number(out, ran.used as u64)?;
+    number(out, ran.written as u64)?;
+    number(out, *last as u64)?;
+    answer_room(out, answers)
 }
 
 // The fields ROOM, PLACE and REQUESTS. Of more than 4,096 bytes the first are taken.
-fn run_fields(
+fn run_fields<W: Write>(
+    out: &mut W,
     fields: &[u8],
     base: &mut Cells,
     log: &mut Log,
     current: &mut Cells,
     last: &mut u32,
     rule: Rule,
-) {
+) -> io::Result<()> {
     let behind_room = behind(fields);
     let mut requests = [0u8; 4096];
     let n = hex(first(behind(behind_room)), &mut requests);
@@ -208,6 +210,7 @@ fn run_fields(
     let size = at_most(decimal(first(fields)));
     let place = decimal(first(behind_room)) as usize;
     run_batch(
+        out,
         base,
         log,
         current,
@@ -216,34 +219,35 @@ fn run_fields(
         &requests[..n],
         &mut answers[..size],
         place,
-    );
+    )
 }
 
 // An empty line, and one that starts with `#`, is no case. The answer is the desk's rule, for the case behind this one.
-fn case(
+fn case<W: Write>(
+    out: &mut W,
     line: &[u8],
     base: &mut Cells,
     log: &mut Log,
     current: &mut Cells,
     last: &mut u32,
     rule: Rule,
-) -> Rule {
+) -> io::Result<Rule> {
     if line.len() == 0 {
-        return rule;
+        return Ok(rule);
     }
     if starts(line, b'#') {
-        return rule;
+        return Ok(rule);
     }
     let behind_name = behind(line);
     let opened = open_anew(first(behind_name), base, log, current, last, rule);
-    say(first(line));
-    run_fields(behind(behind_name), base, log, current, last, opened);
-    say(b"\n");
-    opened
+    say(out, first(line))?;
+    run_fields(out, behind(behind_name), base, log, current, last, opened)?;
+    say(out, b"\n")?;
+    Ok(opened)
 }
 
 // The desk's parts are lent to each case, so that no table is copied.
-fn cases(input: &[u8]) {
+fn cases<W: Write>(out: &mut W, input: &[u8]) -> io::Result<()> {
     let mut base = [0u32; 1858];
     let mut log = [0u8; 418];
     let mut current = [0u32; 1858];
@@ -253,15 +257,17 @@ fn cases(input: &[u8]) {
     while at < input.len() {
         let end = end_at(input, at, b'\n');
         rule = case(
+            out,
             &input[at..end],
             &mut base,
             &mut log,
             &mut current,
             &mut last,
             rule,
-        );
+        )?;
         at = end + 1;
     }
+    Ok(())
 }
 
 // ---- every kind
@@ -320,17 +326,19 @@ fn all_cuts() -> u32 {
     found
 }
 
-fn every_kind() {
-    say(b"unknown-kinds");
-    number(all_unknown() as u64);
-    say(b"\ncut-frames");
-    number(all_cuts() as u64);
-    say(b"\n");
+fn every_kind<W: Write>(out: &mut W) -> io::Result<()> {
+    say(out, b"unknown-kinds")?;
+    number(out, all_unknown() as u64)?;
+    say(out, b"\ncut-frames")?;
+    number(out, all_cuts() as u64)?;
+    say(out, b"\n")
 }
 
-fn main() {
-    let mut input = io::large_buffer();
-    let n = io::read_full(STDIN_FILENO, &mut input);
-    cases(&input[..n]);
-    every_kind();
+fn main(rt: HostRuntime) -> io::Result<()> {
+    let mut input = Vec::new(rt.alloc());
+    rt.reader().read_to_end(&mut input)?;
+    let mut out = BufWriter::new(rt.alloc(), io::writer(&rt))?;
+    cases(&mut out, &input)?;
+    every_kind(&mut out)?;
+    out.flush()
 }

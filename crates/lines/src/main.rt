@@ -6,9 +6,10 @@
 ghost use Rattle.std.specs.Prelude.{◌<◌};
 
 use judge::Ruling;
-use libc::{STDIN_FILENO, STDOUT_FILENO};
 use records::{Cells, Draft, Rule, Script, Session, User};
 use request::Frame;
+use std::io;
+use std::io::{BufWriter, Read, Write};
 
 // ---- the houses; a set of places has place p as bit p
 fn user(sort: u8, level: u8, categories: u16, rooms: u32, leads: u32, admin: bool) -> User {
@@ -195,9 +196,9 @@ fn digit(n: u8) -> u8
     if n < 10 { 48 + n } else { 55 + n }
 }
 
-fn print_byte(byte: u8) {
+fn print_byte<W: Write>(out: &mut W, byte: u8) -> io::Result<()> {
     let pair = [digit(byte / 16), digit(byte % 16)];
-    io::write_all(STDOUT_FILENO, &pair);
+    out.write_all(&pair)
 }
 
 fn answer(ruling: Ruling) -> u8 {
@@ -236,11 +237,11 @@ fn ruled(letter: u8, frame: &[u8], n: usize) -> u8 {
     }
 }
 
-fn finish(case: Case) {
+fn finish<W: Write>(out: &mut W, case: Case) -> io::Result<()> {
     let frame = case.frame;
-    io::write_all(STDOUT_FILENO, b" ");
-    print_byte(ruled(case.letter, &frame, case.digits / 2));
-    io::write_all(STDOUT_FILENO, b"\n");
+    out.write_all(b" ")?;
+    print_byte(out, ruled(case.letter, &frame, case.digits / 2))?;
+    out.write_all(b"\n")
 }
 
 fn value(byte: u8) -> u8
@@ -272,47 +273,50 @@ fn with_digit(case: Case, byte: u8) -> Case {
 }
 
 // The part behind a space; where the request ends, the line begins with its kind.
-fn behind(case: Case) -> Case {
+fn behind<W: Write>(out: &mut W, case: Case) -> io::Result<Case> {
     if case.part == 0 {
-        return Case { part: 1, ..case };
+        return Ok(Case { part: 1, ..case });
     }
     let frame = case.frame;
-    print_byte(frame[0]);
-    io::write_all(STDOUT_FILENO, b" ");
-    Case { part: 2, ..case }
+    print_byte(out, frame[0])?;
+    out.write_all(b" ")?;
+    Ok(Case { part: 2, ..case })
 }
 
-fn step(case: Case, byte: u8) -> Case {
+fn step<W: Write>(out: &mut W, case: Case, byte: u8) -> io::Result<Case> {
     if byte == b'\n' {
-        finish(case);
-        return fresh();
+        finish(out, case)?;
+        return Ok(fresh());
     }
     if byte == b' ' {
-        return behind(case);
+        return behind(out, case);
     }
     if case.part == 0 {
-        return Case {
+        return Ok(Case {
             letter: byte,
             ..case
-        };
+        });
     }
     if case.part == 1 {
-        return with_digit(case, byte);
+        return Ok(with_digit(case, byte));
     }
     let letter = [byte];
-    io::write_all(STDOUT_FILENO, &letter);
-    case
+    out.write_all(&letter)?;
+    Ok(case)
 }
 
-fn run(input: &[u8]) {
+fn run<W: Write>(out: &mut W, input: &[u8]) -> io::Result<()> {
     let mut case = fresh();
-    for i in 0..input.len() {
-        case = step(case, input[i]);
+    for byte in input {
+        case = step(out, case, *byte)?;
     }
+    Ok(())
 }
 
-fn main() {
-    let mut input = io::large_buffer();
-    let n = io::read_full(STDIN_FILENO, &mut input);
-    run(&input[..n]);
+fn main(rt: HostRuntime) -> io::Result<()> {
+    let mut input = Vec::new(rt.alloc());
+    rt.reader().read_to_end(&mut input)?;
+    let mut out = BufWriter::new(rt.alloc(), io::writer(&rt))?;
+    run(&mut out, &input)?;
+    out.flush()
 }

@@ -1,75 +1,77 @@
 // The tables of a house, printed: a line for each element that is there.
 ghost use Rattle.std.specs.Prelude.{◌<◌};
 
-use libc::STDOUT_FILENO;
 use records::Cells;
+use std::io;
+use std::io::Write;
 
-pub fn say(text: &[u8]) {
-    io::write_all(STDOUT_FILENO, text);
+pub fn say<W: Write>(out: &mut W, text: &[u8]) -> io::Result<()> {
+    out.write_all(text)
 }
 
-pub fn decimal(name: &[u8], n: u32) {
-    say(name);
-    io::print_decimal(STDOUT_FILENO, n as u64);
+pub fn decimal<W: Write>(out: &mut W, name: &[u8], n: u32) -> io::Result<()> {
+    say(out, name)?;
+    write!(out, "{n}")
 }
 
-pub fn hex(name: &[u8], n: u32, width: usize) {
-    say(name);
-    io::print_hex(STDOUT_FILENO, n as u64, width);
+pub fn hex<W: Write>(out: &mut W, name: &[u8], n: u32, width: usize) -> io::Result<()> {
+    say(out, name)?;
+    write!(out, "{n:0width$x}")
 }
 
-fn room(records: &Cells, place: u8) {
+fn room<W: Write>(out: &mut W, records: &Cells, place: u8) -> io::Result<()> {
     if records::has(records::rooms(records), place) {
-        decimal(b" ", place as u32);
+        decimal(out, b" ", place as u32)?;
     }
+    Ok(())
 }
 
-fn user(records: &Cells, u: u32) {
+fn user<W: Write>(out: &mut W, records: &Cells, u: u32) -> io::Result<()> {
     let user = records::user_at(records, u as usize);
     if !user.here {
-        return;
+        return Ok(());
     }
-    decimal(b"user ", u);
-    decimal(b" sort ", user.sort as u32);
-    decimal(b" level ", user.level as u32);
-    hex(b" categories ", user.categories as u32, 4);
-    hex(b" rooms ", user.rooms, 8);
-    hex(b" leads ", user.leads, 8);
+    decimal(out, b"user ", u)?;
+    decimal(out, b" sort ", user.sort as u32)?;
+    decimal(out, b" level ", user.level as u32)?;
+    hex(out, b" categories ", user.categories as u32, 4)?;
+    hex(out, b" rooms ", user.rooms, 8)?;
+    hex(out, b" leads ", user.leads, 8)?;
     if user.admin {
-        say(b" admin 1\n");
+        say(out, b" admin 1\n")
     } else {
-        say(b" admin 0\n");
+        say(out, b" admin 0\n")
     }
 }
 
-fn script(records: &Cells, s: u32) {
+fn script<W: Write>(out: &mut W, records: &Cells, s: u32) -> io::Result<()> {
     let script = records::script_at(records, s as usize);
     if !script.here {
-        return;
+        return Ok(());
     }
-    decimal(b"script ", s);
-    decimal(b" level ", script.level as u32);
-    hex(b" categories ", script.categories as u32, 4);
-    decimal(b" origin ", script.origin as u32);
-    say(b"\n");
+    decimal(out, b"script ", s)?;
+    decimal(out, b" level ", script.level as u32)?;
+    hex(out, b" categories ", script.categories as u32, 4)?;
+    decimal(out, b" origin ", script.origin as u32)?;
+    say(out, b"\n")
 }
 
-fn session(records: &Cells, s: u32) {
+fn session<W: Write>(out: &mut W, records: &Cells, s: u32) -> io::Result<()> {
     let session = records::session_at(records, s as usize);
     if !session.here {
-        return;
+        return Ok(());
     }
-    decimal(b"session ", s);
-    decimal(b" owner ", session.owner as u32);
-    decimal(b" level ", session.level as u32);
-    hex(b" categories ", session.categories as u32, 4);
+    decimal(out, b"session ", s)?;
+    decimal(out, b" owner ", session.owner as u32)?;
+    decimal(out, b" level ", session.level as u32)?;
+    hex(out, b" categories ", session.categories as u32, 4)?;
     if session.writes {
-        say(b" RW");
+        say(out, b" RW")?;
     } else {
-        say(b" RO");
+        say(out, b" RO")?;
     }
-    decimal(b" place ", session.place as u32);
-    say(b"\n");
+    decimal(out, b" place ", session.place as u32)?;
+    say(out, b"\n")
 }
 
 // Whether draft i has the script and the places of the draft before it, and the next number. Past the end the number is 0.
@@ -88,43 +90,43 @@ fn follows(records: &Cells, i: usize) -> bool {
 }
 
 // A run of drafts is one line, so that a full table stays readable: its first draft begins the line, its last ends it.
-fn draft(records: &Cells, i: usize)
+fn draft<W: Write>(out: &mut W, records: &Cells, i: usize) -> io::Result<()>
     requires { i < 256 }
 {
     let draft = records::draft_at(records, i);
     if !follows(records, i) {
-        decimal(b"draft ", draft.number);
+        decimal(out, b"draft ", draft.number)?;
     }
     if follows(records, i + 1) {
-        return;
+        return Ok(());
     }
     if follows(records, i) {
-        decimal(b" to ", draft.number);
+        decimal(out, b" to ", draft.number)?;
     }
-    decimal(b" script ", draft.script as u32);
-    hex(b" places ", draft.places, 8);
-    say(b"\n");
+    decimal(out, b" script ", draft.script as u32)?;
+    hex(out, b" places ", draft.places, 8)?;
+    say(out, b"\n")
 }
 
-pub fn tables(records: &Cells) {
-    say(b"rooms");
+pub fn tables<W: Write>(out: &mut W, records: &Cells) -> io::Result<()> {
+    say(out, b"rooms")?;
     'rooms: for i in 0..32 {
-        room(records, i);
+        room(out, records, i)?;
     }
-    say(b"\n");
+    say(out, b"\n")?;
     'users: for i in 0..64 {
-        user(records, i);
+        user(out, records, i)?;
     }
     'scripts: for i in 0..64 {
-        script(records, i);
+        script(out, records, i)?;
     }
     'sessions: for i in 0..64 {
-        session(records, i);
+        session(out, records, i)?;
     }
     let live = records::draft_count(records);
     'drafts: for i in 0..live {
-        draft(records, i);
+        draft(out, records, i)?;
     }
-    decimal(b"drafts ", live as u32);
-    say(b"\n");
+    decimal(out, b"drafts ", live as u32)?;
+    say(out, b"\n")
 }

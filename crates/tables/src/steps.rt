@@ -2,40 +2,41 @@
 ghost use Rattle.std.specs.Prelude.{◌≤◌};
 
 use crate::lines;
-use libc::STDOUT_FILENO;
 use records::Cells;
 use request::Frame;
+use std::io;
+use std::io::Write;
 
-fn administrative(kind: u8) {
+fn administrative<W: Write>(out: &mut W, kind: u8) -> io::Result<()> {
     match kind {
-        0x01 => lines::say(b" Enrol "),
-        0x02 => lines::say(b" Establish "),
-        0x03 => lines::say(b" Join staff "),
-        0x04 => lines::say(b" Leave staff "),
-        0x05 => lines::say(b" Join outsider "),
-        0x06 => lines::say(b" Leave outsider "),
-        0x07 => lines::say(b" Add "),
-        0x08 => lines::say(b" Remove "),
-        0x09 => lines::say(b" Import "),
-        0x0A => lines::say(b" Merge "),
-        0x0B => lines::say(b" Disband "),
-        0x0C => lines::say(b" Make lead "),
-        0x0D => lines::say(b" End lead "),
-        _ => {}
+        0x01 => lines::say(out, b" Enrol "),
+        0x02 => lines::say(out, b" Establish "),
+        0x03 => lines::say(out, b" Join staff "),
+        0x04 => lines::say(out, b" Leave staff "),
+        0x05 => lines::say(out, b" Join outsider "),
+        0x06 => lines::say(out, b" Leave outsider "),
+        0x07 => lines::say(out, b" Add "),
+        0x08 => lines::say(out, b" Remove "),
+        0x09 => lines::say(out, b" Import "),
+        0x0A => lines::say(out, b" Merge "),
+        0x0B => lines::say(out, b" Disband "),
+        0x0C => lines::say(out, b" Make lead "),
+        0x0D => lines::say(out, b" End lead "),
+        _ => Ok(()),
     }
 }
 
-fn operational(kind: u8) {
+fn operational<W: Write>(out: &mut W, kind: u8) -> io::Result<()> {
     match kind {
-        0x10 => lines::say(b" Open RW in room "),
-        0x11 => lines::say(b" Open RW in house "),
-        0x12 => lines::say(b" Open RO "),
-        0x13 => lines::say(b" Read "),
-        0x14 => lines::say(b" Update "),
-        0x15 => lines::say(b" Create "),
-        0x16 => lines::say(b" Kill "),
-        0x20 => lines::say(b" Take back "),
-        _ => {}
+        0x10 => lines::say(out, b" Open RW in room "),
+        0x11 => lines::say(out, b" Open RW in house "),
+        0x12 => lines::say(out, b" Open RO "),
+        0x13 => lines::say(out, b" Read "),
+        0x14 => lines::say(out, b" Update "),
+        0x15 => lines::say(out, b" Create "),
+        0x16 => lines::say(out, b" Kill "),
+        0x20 => lines::say(out, b" Take back "),
+        _ => Ok(()),
     }
 }
 
@@ -48,12 +49,13 @@ fn length_of(kind: u8) -> usize
 }
 
 // The step's number, the kind's name, and the request's bytes.
-fn announce(ordinal: u32, kind: u8, body: u64) {
-    lines::decimal(b"step ", ordinal);
-    administrative(kind);
-    operational(kind);
-    lines::hex(b"", kind as u32, 2);
-    io::print_hex(STDOUT_FILENO, body, 2 * length_of(kind));
+fn announce<W: Write>(out: &mut W, ordinal: u32, kind: u8, body: u64) -> io::Result<()> {
+    lines::decimal(out, b"step ", ordinal)?;
+    administrative(out, kind)?;
+    operational(out, kind)?;
+    lines::hex(out, b"", kind as u32, 2)?;
+    let width = 2 * length_of(kind);
+    write!(out, "{body:0width$x}")
 }
 
 // The request's bytes: the kind, then the body's number, most significant byte first.
@@ -70,35 +72,56 @@ fn frame_of(kind: u8, body: u64) -> [u8; 9] {
     frame
 }
 
-fn change(records: &mut Cells, kind: u8, body: u64, number: u32) {
+fn change<W: Write>(
+    out: &mut W,
+    records: &mut Cells,
+    kind: u8,
+    body: u64,
+    number: u32,
+) -> io::Result<()> {
     let frame = frame_of(kind, body);
     let read = request::read(&frame);
     let Frame::Whole(request) = read else {
-        lines::say(b"no request\n");
-        return;
+        return lines::say(out, b"no request\n");
     };
     effects::apply(records, request, number);
+    Ok(())
 }
 
 // One change, which receives that draft number, 0 for none.
-pub fn step(records: &mut Cells, ordinal: u32, kind: u8, body: u64, number: u32) {
-    announce(ordinal, kind, body);
+pub fn step<W: Write>(
+    out: &mut W,
+    records: &mut Cells,
+    ordinal: u32,
+    kind: u8,
+    body: u64,
+    number: u32,
+) -> io::Result<()> {
+    announce(out, ordinal, kind, body)?;
     if number != 0 {
-        lines::decimal(b" receives ", number);
+        lines::decimal(out, b" receives ", number)?;
     }
-    lines::say(b"\n");
-    change(records, kind, body, number);
-    lines::tables(records);
+    lines::say(out, b"\n")?;
+    change(out, records, kind, body, number)?;
+    lines::tables(out, records)
 }
 
 // The same request again and again, which receives the numbers from first to last.
-pub fn fill(records: &mut Cells, ordinal: u32, kind: u8, body: u64, first: u32, last: u32) {
-    announce(ordinal, kind, body);
-    lines::decimal(b" receives ", first);
-    lines::decimal(b" to ", last);
-    lines::say(b"\n");
+pub fn fill<W: Write>(
+    out: &mut W,
+    records: &mut Cells,
+    ordinal: u32,
+    kind: u8,
+    body: u64,
+    first: u32,
+    last: u32,
+) -> io::Result<()> {
+    announce(out, ordinal, kind, body)?;
+    lines::decimal(out, b" receives ", first)?;
+    lines::decimal(out, b" to ", last)?;
+    lines::say(out, b"\n")?;
     'drafts: for number in first..=last {
-        change(records, kind, body, number);
+        change(out, records, kind, body, number)?;
     }
-    lines::tables(records);
+    lines::tables(out, records)
 }
