@@ -10,7 +10,7 @@ use Rattle.records.specs.House.{House}
 use Rattle.records.specs.declared.Rule.{Rule}
 use Rattle.effects.specs.declared.Change.{Change}
 use Rattle.history.specs.Machine.{Desk}
-use Rattle.io.specs.Counts.{IsPrefixLen}
+use Rattle.desk.specs.Counts.{IsPrefixLen}
 use Rattle.desk.specs.Turns.{Stand, stand, first, Turned, turn, stand_after, went_on, LedTo, TurnIs}
 use Rattle.desk.specs.declared.pieces.Turn.{Turn}
 use Rattle.desk.proofs.Steps.{part_length, ordinal_near, few_waiting}

@@ -143,17 +143,17 @@ made x d k u at O O₀ g e room =
 pub part_length : (u : ℕ) (R : List ℕ) → length (take (length R - u) (drop u R)) ≡ length R - u
 part_length u R = let e = length-drop u R in length-take-le (length R - u) (drop u R) (omega arith)
 
-module _ {rule : Rule} {why ended : Bool} {d : Desk House Change} {k : ℕ} {R : List ℕ} {d₁ : Desk House Change} {k₁ u at : ℕ} {O : List ℕ} (so_far : SoFar rule why ended d k R d₁ k₁ u at O) (O₀ : List ℕ)
+module _ {rule : Rule} {why ended : Bool} {d : Desk House Change} {k : ℕ} {R : List ℕ} {d₁ : Desk House Change} {k₁ u at : ℕ} {O : List ℕ} (sofar : SoFar rule why ended d k R d₁ k₁ u at O) (O₀ : List ℕ)
   where
     pub all_used : length R ≤ u → at ≤ length O → Made (all_of rule why ended d k R) O₀ 0 d₁ (so_far k₁ u at (not ended)) O
     all_used l room =
-        let all-of : u ≡ length R = omega (arith, so_far.in_piece) in
+        let all-of : u ≡ length R = omega (arith, sofar.in_piece) in
         let gone : drop u R ≡ [] = ap (λ (j : ℕ). drop j R) all-of ∙ drop-length R in
         let k-same : k₁ + 0 ≡ k₁ = omega arith in
         let u_same : u + 0 ≡ u = omega arith in
         let t_same = append-nil (take at O) in
         made (all_of rule why ended d k R) d₁ k₁ u at O O₀ (not ended)
-        (so_far.is ∙ ap (λ (b : List ℕ). behind u (take at O) (all_of rule why ended d₁ k₁ b)) gone ∙ ap (λ (s : Series). behind u (take at O) (done_with rule why ended d₁ k₁ s)) series_empty
+        (sofar.is ∙ ap (λ (b : List ℕ). behind u (take at O) (all_of rule why ended d₁ k₁ b)) gone ∙ ap (λ (s : Series). behind u (take at O) (done_with rule why ended d₁ k₁ s)) series_empty
         ∙ (λ i. done d₁ (k-same i) (u_same i) (t_same i) (not ended)))
         room
 
@@ -183,7 +183,7 @@ module _ {rule : Rule} {why ended : Bool} {d : Desk House Change} {k : ℕ} {R :
       made_next = subst (λ (P : List ℕ). Made (one_of rule why ended d₁ k₁ P) O at d₂ r O') (all_of_part less) next-made
 
       told : (y : Done) → all_of rule why ended d₁ k₁ (drop u R) ≡ y → all_of rule why ended d k R ≡ behind u (take at O) y
-      told y e = so_far.is ∙ ap (behind u (take at O)) e
+      told y e = sofar.is ∙ ap (behind u (take at O)) e
 
       line_short' : length (x less).text ≤ 136
       line_short' = of (then_next less)
@@ -221,8 +221,8 @@ module _ {rule : Rule} {why ended : Bool} {d : Desk House Change} {k : ℕ} {R :
               let size : length y.text ≡ length (x less).text = ap (λ (w : Done). length w.text) is_x in
               record {
                 in_piece = used_fits less r.used next-made.used;
-                counted = omega (arith, so_far.counted, ordinal, count, used, some);
-                short = omega (arith, so_far.short, m.put.ends, size, short, used, some);
+                counted = omega (arith, sofar.counted, ordinal, count, used, some);
+                short = omega (arith, sofar.short, m.put.ends, size, short, used, some);
                 is =
                     told _ e
                     ∙ behind_twice u y.used (take at O) y.text (all_of rule why ended y.desk y.ordinal (drop y.used (drop u R)))

@@ -1,6 +1,6 @@
 -- What is known of a read: that so many bytes of the buffer were read.
 use Rattle.std.specs.Prelude.{ℕ, List}
-use Rattle.io.specs.Counts.{IsPrefixLen}
+use Rattle.desk.specs.Counts.{IsPrefixLen}
 use Rattle.desk.specs.declared.files.Got.{Got}
 use Rattle.desk.specs.declared.files.Got.TheVariants.{Bytes, Failed}
 

@@ -2,7 +2,7 @@
 -- Where the reasons are asked for: "The line of 01, then five parts more: the refusal's number (decimal, 0 for a grant), the record's kind (two hex digits), its id
 -- or number, the first value, the second value (decimal), one space between."
 use Rattle.std.specs.Prelude.{ℕ, zero, suc, ◌+◌, ◌/◌, ◌%◌, ◌^◌, ◌≡◌, Bool, cond, List, [], ◌∷◌, ◌++◌, ltb, length, take}
-use Rattle.io.specs.Digits.{last_digits}
+use Rattle.desk.specs.Digits.{last_digits}
 use Rattle.history.specs.Desk.{answer_byte}
 use Rattle.history.specs.declared.Answer.{Answer}
 use Rattle.history.specs.declared.Answer.TheVariants.{Granted, Numbered, Refused}

@@ -1,5 +1,5 @@
 -- The names of files: the folder that a name is in, and the name of a new file beside it.
-use Rattle.std.specs.Prelude.{ℕ, suc, Bool, cond, not, ◌||◌, List, [], ◌∷◌, ◌++◌, eqb}
+use Rattle.std.specs.Prelude.{ℕ, suc, cond, not, ◌||◌, List, [], ◌∷◌, ◌++◌, eqb}
 
 -- how many bytes of a name are its folder: up to its last `/`, that one too; none where it has no `/`
 abbrev pub folder_length : List ℕ → ℕ

@@ -1,8 +1,9 @@
 // The text of a line: the ordinal, the kind, the answer byte, the draft number or a dash, and where it is asked for the reason.
 ghost use Rattle.std.specs.Prelude.{◌≡◌, cond, [], ◌+◌, ◌<◌, ◌≤◌, length};
-ghost use Rattle.io.specs.Counts.{IsPrefixLen};
+ghost use Rattle.desk.specs.Counts.{IsPrefixLen};
 ghost use Rattle.desk.specs.Lines.{hex_digit, middle_of, decimal, number_text, number_part, kind_part, reason_text, line_of, refused_text, rule_refused_text, Put};
 
+use crate::digits::decimal;
 use history::Answer;
 use reasons::Reason;
 
@@ -46,7 +47,9 @@ pub(crate) fn append(out: &mut [u8], at: usize, text: &[u8]) -> usize
     requires { at + length text.now ≤ length out.old }
     ensures { Put out.old at text.now result out.new }
 {
-    at + bytes::copy(text, &mut out[at..])
+    let end = at + text.len();
+    out[at..end].copy_from_slice(text);
+    end
 }
 
 fn put_decimal(n: u64, out: &mut [u8], at: usize) -> usize
@@ -54,7 +57,7 @@ fn put_decimal(n: u64, out: &mut [u8], at: usize) -> usize
     ensures { Put out.old at (decimal n) result out.new }
 {
     let mut digits = [0u8; 20];
-    let k = io::decimal(n, &mut digits);
+    let k = decimal(n, &mut digits);
     append(out, at, &digits[..k])
 }
 

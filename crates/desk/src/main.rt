@@ -2,17 +2,20 @@
 #![tactic(auto)]
 
 mod answers;
+mod digits;
 mod files;
 mod lines;
 mod names;
 mod pieces;
+mod told;
 
 ghost use Rattle.std.specs.Prelude.{◌≡◌, length, take};
-ghost use Rattle.io.specs.Counts.{IsPrefixLen};
+ghost use Rattle.desk.specs.Counts.{IsPrefixLen};
 ghost use Rattle.records.specs.House.{view};
 ghost use Rattle.image.specs.Image.{image_of};
 ghost use Rattle.history.specs.Desk.{shown};
 ghost use Rattle.opening.specs.Desks.{opens_desk};
+ghost use Rattle.desk.specs.Files.{Within};
 ghost use Rattle.desk.specs.Opened.{file_by, JustOpened};
 ghost use Rattle.desk.specs.Turns.{LedTo};
 
@@ -20,17 +23,45 @@ use arguments::Arguments;
 use files::Got;
 use history::Answer;
 use image::Written;
-use libc::{STDERR_FILENO, STDIN_FILENO, STDOUT_FILENO};
 use kept::Log;
 use opening::{Opened, Opening};
 use records::{Cells, Rule};
+use std::env::{Env, FillError};
+use std::io::Read;
+use std::process::ExitCode;
+use told::{failed, tell};
+
+// What one read of the input gives; no bytes at its end.
+fn read_piece(rt: &HostRuntime, buf: &mut [u8]) -> Got
+    ensures { Within result buf.new }
+{
+    match rt.stdin().read(buf) {
+        Ok(got) => Got::Bytes(got),
+        Err(error) => {
+            failed(rt, b"desk: standard input", error);
+            Got::Failed
+        }
+    }
+}
+
+// The answer is whether all of the text was written; where it was not, that is told.
+fn print_text(rt: &HostRuntime, text: &[u8]) -> bool {
+    match rt.write_all(text) {
+        Ok(()) => true,
+        Err(error) => {
+            failed(rt, b"desk: standard output", error);
+            false
+        }
+    }
+}
 
 // The loop only reads, has each piece answered and writes its text: what is printed, what waits and whether to go on is decided in `answer_piece`.
-// No contract can say what is read and written, so the lines that do it are trusted, and tested by runs.
+// No contract can say what is read and written, so the lines that do it are trusted, and tested by runs. The answer is whether no read or write failed.
 //
 // Every proved loop ends, so this one has a number of turns, 2 ^ 50, which also keeps each ordinal within 64 bits. After that many reads (35 years, at
 // a microsecond each) the program ends as it stands: the lines of all whole requests read are written, what waits is not answered, and no C2 is printed.
 fn run(
+    rt: &HostRuntime,
     why: bool,
     base: &mut Cells,
     log: &mut Log,
@@ -39,7 +70,7 @@ fn run(
     rule: Rule,
     buf: &mut [u8],
     out: &mut [u8],
-)
+) -> bool
     requires just_opened { JustOpened rule (shown base.old log.old current.old last.old) }
     requires buf_len { (length buf.old ≡ 1024) × (length out.old ≡ 139264) }
     ensures { LedTo rule why (shown base.old log.old current.old last.old) (shown base.new log.new current.new last.new) }
@@ -48,27 +79,24 @@ fn run(
     let mut have: usize = 0;
     let mut turns: u64 = 1125899906842624;
     while turns > 0 {
-        let read = libc::read(STDIN_FILENO, &mut buf[have..]);
-        if read < 0 {
-            os::fail(b"desk: standard input");
-            return;
-        }
-        let got = io::count(read, &buf[have..]);
+        let Got::Bytes(got) = read_piece(rt, &mut buf[have..]) else {
+            return false;
+        };
         let turn = pieces::answer_piece(
             why, base, log, current, last, rule, ordinal, buf, have, got, out,
         );
         let text = turn.text;
-        if !io::write_all(STDOUT_FILENO, &out[..text]) {
-            os::fail(b"desk: standard output");
-            return;
+        if !print_text(rt, &out[..text]) {
+            return false;
         }
         if !turn.onward {
-            return;
+            return true;
         }
         ordinal = turn.ordinal;
         have = turn.have;
         turns -= 1;
     }
+    true
 }
 
 // Room for the lines of a piece of 1024 bytes: a request has one byte at least, and a line 136 at most.
@@ -87,15 +115,16 @@ fn word_room() -> [u8; 131072]
 
 // The words behind the program's name, each taken in its turn: that these are the words is trusted, what they ask for is decided in `take_word`.
 // One that is too long for the buffer is read as an empty word: neither is an argument or a number, and of a name only the place is kept.
-fn words() -> Arguments {
-    let count = os::arg_count();
+fn words(rt: &HostRuntime) -> Arguments {
     let mut taken = arguments::none();
     let mut word = word_room();
-    let mut i: usize = 1;
-    while i < count {
-        let n = os::arg(i, &mut word);
+    for i in 1..usize::MAX {
+        let n = match rt.arg(i, &mut word) {
+            Ok(n) => n,
+            Err(FillError::TooLong) => 0,
+            Err(FillError::NotPresent) => break,
+        };
         taken = arguments::take_word(taken, i, &word[..n]);
-        i += 1;
     }
     taken
 }
@@ -112,15 +141,16 @@ fn image_of(current: &Cells, last: u32, rule: Rule, out: &mut [u8]) -> usize
     n
 }
 
-fn save_image(word: usize, current: &Cells, last: u32, rule: Rule) {
+fn save_image(rt: &HostRuntime, word: usize, current: &Cells, last: u32, rule: Rule) -> bool {
     let mut image = [0u8; 4454];
     let n = image_of(current, last, rule, &mut image);
-    files::write_image(word, &image[..n]);
+    files::write_image(rt, word, &image[..n])
 }
 
 // The input is answered, and the desk as it then stands is saved where that is asked for: also where a line could not be printed or a read failed, since
-// the numbers that were given may have been seen.
+// the numbers that were given may have been seen. The answer, as of all that serve, is whether nothing had to be told.
 fn answer(
+    rt: &HostRuntime,
     why: bool,
     save: usize,
     base: &mut Cells,
@@ -128,26 +158,28 @@ fn answer(
     current: &mut Cells,
     last: &mut u32,
     rule: Rule,
-)
+) -> bool
     requires { JustOpened rule (shown base.old log.old current.old last.old) }
 {
     let mut buf = [0u8; 1024];
     let mut out = text_room();
-    run(why, base, log, current, last, rule, &mut buf, &mut out);
-    if save != 0 {
-        save_image(save, current, *last, rule);
+    let answered = run(rt, why, base, log, current, last, rule, &mut buf, &mut out);
+    if save == 0 {
+        return answered;
     }
+    let saved = save_image(rt, save, current, *last, rule);
+    answered && saved
 }
 
 // One line, where the rule's number is none.
-fn tell_rule(rule: u32, number: u8) {
+fn tell_rule(rt: &HostRuntime, rule: u32, number: u8) {
     let mut line = [0u8; 64];
     let n = lines::rule_refused(rule, number, &mut line);
-    io::write_all(STDERR_FILENO, &line[..n]);
+    tell(rt, &line[..n]);
 }
 
 // A desk without records, with the last number already used, under the rule of that number. Where that is refused it is told, and nothing is answered.
-fn serve_new(why: bool, save: usize, number: u32, rule_number: u32) {
+fn serve_new(rt: &HostRuntime, why: bool, save: usize, number: u32, rule_number: u32) -> bool {
     let opened = history::open(number, rule_number);
     let answered = opened.answer;
     let desk = opened.desk;
@@ -158,6 +190,7 @@ fn serve_new(why: bool, save: usize, number: u32, rule_number: u32) {
     let rule = desk.rule;
     match answered {
         Answer::Granted => answer(
+            rt,
             why,
             save,
             &mut base,
@@ -166,8 +199,11 @@ fn serve_new(why: bool, save: usize, number: u32, rule_number: u32) {
             &mut last,
             rule,
         ),
-        Answer::Numbered(_) => {}
-        Answer::Refused(n) => tell_rule(rule_number, n),
+        Answer::Numbered(_) => true,
+        Answer::Refused(n) => {
+            tell_rule(rt, rule_number, n);
+            false
+        }
     }
 }
 
@@ -197,10 +233,10 @@ fn open_file(
 }
 
 // The desk of an image. What is refused is told, and nothing is answered: the numbers of the empty desk would start again.
-fn serve_image(why: bool, save: usize, from: usize) {
+fn serve_image(rt: &HostRuntime, why: bool, save: usize, from: usize) -> bool {
     let mut image = image_room();
-    let Got::Bytes(n) = files::read_image(from, &mut image) else {
-        return;
+    let Got::Bytes(n) = files::read_image(rt, from, &mut image) else {
+        return false;
     };
     let empty = history::open(0, 1);
     let desk = empty.desk;
@@ -213,6 +249,7 @@ fn serve_image(why: bool, save: usize, from: usize) {
     let rule = opened.rule;
     match answered {
         Opening::Opened => answer(
+            rt,
             why,
             save,
             &mut base,
@@ -221,29 +258,41 @@ fn serve_image(why: bool, save: usize, from: usize) {
             &mut last,
             rule,
         ),
-        Opening::Refused(number) => files::tell_refused(from, number),
+        Opening::Refused(number) => {
+            files::tell_refused(rt, from, number);
+            false
+        }
     }
 }
 
-fn main() {
-    let arguments = words();
+fn serve(rt: &HostRuntime) -> bool {
+    let arguments = words(rt);
     if arguments::wrong(arguments) {
-        io::write_all(
-            STDERR_FILENO,
+        tell(
+            rt,
             b"desk: usage: desk [--last N | --from IMAGE] [--rule R] [--save IMAGE] [--why] <requests >lines\n",
         );
-        return;
+        return false;
     }
     let why = arguments.why;
     let save = arguments.save;
     if arguments.from != 0 {
-        serve_image(why, save, arguments.from);
-        return;
+        return serve_image(rt, why, save, arguments.from);
     }
     serve_new(
+        rt,
         why,
         save,
         arguments::last_number(arguments),
         arguments::rule_number(arguments),
-    );
+    )
+}
+
+// The status is 1 where standard error has a line.
+fn main(rt: HostRuntime) -> ExitCode {
+    if serve(&rt) {
+        ExitCode::SUCCESS
+    } else {
+        ExitCode::FAILURE
+    }
 }

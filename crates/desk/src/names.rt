@@ -1,6 +1,6 @@
 // The names of files: the folder that a name is in, and the name of a new file beside it.
-ghost use Rattle.std.specs.Prelude.{◌≡◌, ◌+◌, ◌≤◌, length};
-ghost use Rattle.io.specs.Counts.{IsPrefixLen};
+ghost use Rattle.std.specs.Prelude.{◌≡◌, ◌≢◌, ℕ, ◌+◌, ◌-◌, ◌<◌, ◌≤◌, length, take, slice_index};
+ghost use Rattle.desk.specs.Counts.{IsPrefixLen};
 ghost use Rattle.desk.specs.Lines.{Put};
 ghost use Rattle.desk.specs.Names.{folder_length, beside_name};
 
@@ -29,4 +29,31 @@ pub(crate) fn put_beside(name: &[u8], out: &mut [u8]) -> usize
 {
     let a = append(out, 0, name);
     append(out, a, b".XXXXXX")
+}
+
+// A digit or a letter.
+fn letter(n: u8) -> u8
+    ensures { result ≢ 47 }
+{
+    let k = n % 62;
+    if k < 10 {
+        48 + k
+    } else if k < 36 {
+        55 + k
+    } else {
+        61 + k
+    }
+}
+
+// Other letters for the last six bytes of a name: the name stays in its folder.
+pub(crate) fn put_letters(random: [u8; 6], name: &mut [u8])
+    ensures front { take (length name.old - 6) name.new ≡ take (length name.old - 6) name.old }
+    ensures letters { (k : ℕ) → length name.old ≤ k + 6 → k < length name.old → slice_index name.new k ≢ 47 }
+{
+    let mut i = 0;
+    while i < 6 && i < name.len() {
+        let at = name.len() - 1 - i;
+        name[at] = letter(random[i]);
+        i += 1;
+    }
 }

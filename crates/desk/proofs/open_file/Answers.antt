@@ -1,0 +1,12 @@
+-- `open_file` meets its contract.
+use borrow.Author.Tests.{lt-ltb, le-ltb}
+use Rattle.desk.specs.Opened.{file_by}
+use Rattle.desk.proofs.open_file.Goals as goal
+
+pub returns-then-bytes-gt65536 : goal.returns-then-bytes-gt65536
+unfolding file_by
+returns-then-bytes-gt65536 c = rw (lt-ltb 65536 _ c.if-bytes-gt65536.true)
+
+pub returns : goal.returns
+unfolding file_by
+returns c = rw (le-ltb 65536 _ c.if-bytes-gt65536.false) c.open_desk.ensures

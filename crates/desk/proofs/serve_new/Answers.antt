@@ -1,0 +1,6 @@
+-- The desk that is handed over was just opened with a number, under a rule.
+use Rattle.desk.specs.Opened.{with_number}
+use Rattle.desk.proofs.serve_new.Goals as goal
+
+pub answer-requires : goal.answer-requires
+answer-requires c = with_number c.args.number c.args.rule_number (rw c.in-Granted.is at c.open-opened.ensures)
