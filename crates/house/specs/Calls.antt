@@ -1,10 +1,7 @@
 -- What a call from C answers and leaves: the work is other crates', and their answers are handed to C as numbers.
 use Rattle.std.specs.Prelude.{ℕ, ◌≡◌, cond, List, [], ◌∷◌, eqb}
-use Rattle.records.specs.House.{House}
 use Rattle.records.specs.declared.Rule.{Rule}
-use Rattle.effects.specs.declared.Change.{Change}
 use Rattle.reasons.specs.declared.Reason.{Reason}
-use Rattle.history.specs.Machine.{Desk}
 use Rattle.history.specs.Desk.{Opens}
 use Rattle.image.specs.declared.Written.{Written}
 use Rattle.opening.specs.Desks.{OpensDesk}

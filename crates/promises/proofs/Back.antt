@@ -1,5 +1,5 @@
 -- What is kept, and that a take-back leaves the records as they stood before the change. Of every desk, or of every desk reached from an opening.
-use Prim.Native.Nat.{ℕ, ◌+◌, ◌-◌}
+use Prim.Native.Nat.{ℕ, ◌+◌}
 use mathlib.Core.Path.{◌≡◌, refl, sym, ap, ◌∙◌}
 use mathlib.Core.Bool.{true}
 use mathlib.Core.List.{List, [], ◌∷◌, foldl, foldl-append}

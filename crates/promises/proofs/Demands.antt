@@ -17,7 +17,7 @@ use Rattle.judge.specs.declared.Ruling.{Ruling}
 use Rattle.judge.specs.declared.Ruling.TheVariants.{Pass, Keep, KeepNumbered}
 use Rattle.judge.proofs.Order.{granted_exactly, refused_exactly}
 use Rattle.counter.specs.Numbers.{top}
-use Rattle.history.specs.Machine.{pass, make, issue, undo, Desk, outcome, opened, keep_change, issued, ruled, step}
+use Rattle.history.specs.Machine.{pass, make, issue, undo, Desk, outcome, opened, keep_change, ruled, step}
 use Rattle.history.specs.Desk.{verdict_of, desk_rules}
 use Rattle.history.specs.declared.Answer.{Answer}
 use Rattle.promises.specs.Back.{TakenBack}

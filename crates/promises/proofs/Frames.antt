@@ -11,7 +11,7 @@ use Rattle.records.specs.Lists.{all}
 use Rattle.request.specs.Bytes.{◌#◌, pair_at, quad_at}
 use Rattle.request.specs.Kinds.{Body, one, two, four, make, Row, Sought, at, none, rows, find}
 use Rattle.request.specs.Reading.{fields_from, frame_at, frame_of}
-use Rattle.request.specs.Writing.{Field, Spelling, spelling}
+use Rattle.request.specs.Writing.{Field, Spelling}
 use Rattle.request.specs.declared.Frame.TheVariants.{Whole, Cut}
 use Rattle.request.specs.declared.Request.{Request}
 use Rattle.request.proofs.Rows.{found}

@@ -7,12 +7,12 @@ use mathlib.Core.Logic.{◌⊎◌, inl, inr}
 use native.Mathlib.Omega.{arith}
 use native.Mathlib.Decide.{ℕ_discrete}
 use lib.ListN.{length, get_or, set, length-map}
-use Rattle.records.specs.Places.{has, only}
+use Rattle.records.specs.Places.{has}
 use Rattle.records.specs.House.{no_user, no_session, house, staff}
 use Rattle.records.specs.declared.User.{User}
 use Rattle.records.specs.declared.Session.{Session}
 use Rattle.effects.specs.Elements.{with_rooms}
-use Rattle.rules.specs.Facts.{Among, LabelFits, Place, UserFine, Administered, Led, Writing, Within, SessionFine, Seated, Seats}
+use Rattle.rules.specs.Facts.{Among, Place, UserFine, Administered, Led, Writing, Within, SessionFine, Seated, Seats}
 use Rattle.rules.proofs.Bools.{clash}
 use Rattle.rules.proofs.Lists.{at_set, at_map}
 use Rattle.rules.proofs.Sets.{with_new, with_old, with_other, room_number}

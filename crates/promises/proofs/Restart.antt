@@ -25,7 +25,6 @@ use Rattle.rules.specs.Lists.{Each}
 use Rattle.rules.specs.Rules.{rules}
 use Rattle.reader.specs.Reading.{saved}
 use Rattle.opening.specs.Opening.{Opens, opened_by, accepted}
-use Rattle.opening.specs.Desks.{desk_by}
 use Rattle.opening.proofs.Theorems.{saved_opens}
 use Rattle.batch.specs.Batch.{State}
 use Rattle.promises.specs.Book.{numbers, Rising}

@@ -1,5 +1,5 @@
 -- "Room freed by a deleted draft is used again": a draft finds room by how many live now, whatever was deleted before.
-use Prim.Native.Nat.{ℕ, ◌<◌}
+use Prim.Native.Nat.{◌<◌}
 use mathlib.Core.Path.{◌≡◌}
 use mathlib.Core.Bool.{true}
 use mathlib.Core.List.{[], ◌∷◌, ◌++◌}

@@ -2,10 +2,9 @@
 use mathlib.Core.Path.{◌≡◌, refl, sym, subst}
 use mathlib.Core.Bool.{Bool, true, false, cond}
 use mathlib.Core.List.{List, [], ◌∷◌}
-use Prim.Native.Nat.{ℕ, ◌+◌, ◌-◌, ◌<◌}
+use Prim.Native.Nat.{ℕ, ◌+◌, ◌<◌}
 use native.Mathlib.Omega.{arith}
 use lib.Dec.{eqb}
-use lib.ListN.{length, take}
 use Rattle.request.proofs.Absurd.{differ}
 use Rattle.counter.specs.Numbers.{top, next_after}
 use Rattle.counter.specs.declared.Next.{Next}
@@ -13,7 +12,7 @@ use Rattle.counter.specs.declared.Next.TheVariants.{Number, Spent}
 use Rattle.history.specs.declared.Answer.{Answer}
 use Rattle.history.specs.declared.Answer.TheVariants.{Granted, Refused}
 use Rattle.history.specs.Machine.{Verdict, refuse, pass, make, issue, undo, Rulebook, Desk, opened, changed, step, run, answers}
-use Rattle.promises.specs.Book.{Book, Entry, entry, blank, records_of, enter, struck, enter_numbered, noted, note, book_after, book_answers, numbers, Rising}
+use Rattle.promises.specs.Book.{Book, entry, blank, records_of, enter, struck, enter_numbered, noted, note, book_after, book_answers, numbers, Rising}
 use Rattle.promises.proofs.Agrees.{Agrees, opened_agrees, step_same}
 
 -- ---- numbers: what follows the last number is larger

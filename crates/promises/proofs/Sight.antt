@@ -1,7 +1,7 @@
 -- At every moment of a run each session is within its owner's label, and so is what a granted Read reads.
 use Prim.Native.Nat.{ℕ, zero, suc}
 use mathlib.Core.Path.{◌≡◌, refl, subst}
-use mathlib.Core.Bool.{Bool, true, false, ◌&&◌}
+use mathlib.Core.Bool.{Bool, true, false}
 use mathlib.Core.List.{List, [], ◌∷◌}
 use native.Mathlib.Omega.{arith}
 use lib.ListN.{take}
@@ -16,7 +16,6 @@ use Rattle.conditions.specs.Labels.{Covered}
 use Rattle.conditions.proofs.Labels.{covered}
 use Rattle.effects.specs.Elements.{in_no_room}
 use Rattle.effects.specs.declared.Change.{Change}
-use Rattle.reasons.specs.Asking.{AllHold}
 use Rattle.reasons.specs.Shared.{covers, draft_asked}
 use Rattle.judge.specs.Kinds.{lines_of}
 use Rattle.history.specs.Machine.{Desk, opened, step, run, answers}

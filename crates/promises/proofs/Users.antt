@@ -20,11 +20,11 @@ use Rattle.sessions.specs.Sessions.{ends, ended}
 use Rattle.sessions.specs.declared.Ending.TheVariants.{OfMember, Uncovered}
 use Rattle.effects.specs.Elements.{enrolled, joined, left, in_no_room, hired}
 use Rattle.effects.specs.Effects.{departed, arrived}
-use Rattle.rules.specs.Facts.{Among, RoomNumber, LabelFits, UserFine, Administered, Led, People, Writing, Within, SessionFine, Seated, Seats, Rules}
+use Rattle.rules.specs.Facts.{Among, RoomNumber, LabelFits, UserFine, Administered, Led, People, Within, SessionFine, Seats, Rules}
 use Rattle.rules.proofs.Bools.{clash}
 use Rattle.rules.proofs.Lists.{at_set, elsewhere}
 use Rattle.rules.proofs.Meaning.{within_is, none_within}
-use Rattle.rules.proofs.Sets.{some, with_new, with_old, with_other, with_among, without_other, without_among, number_room}
+use Rattle.rules.proofs.Sets.{with_new, with_old, with_other, with_among, without_other, without_among, number_room}
 use Rattle.promises.proofs.Parts.{led_move, admin_move, user_more, Stays, stays, session_stays, seats_more, seated_put, seats_put, seats_end}
 use Rattle.promises.proofs.Drafts.{texts_more}
 

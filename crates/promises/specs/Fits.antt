@@ -1,5 +1,5 @@
 -- Requests whose fields fit their bytes. 01: "v has four bytes, c (categories) two, the rest one".
-use Rattle.std.specs.Prelude.{ℕ, Bool, ltb}
+use Rattle.std.specs.Prelude.{Bool, ltb}
 use Rattle.records.specs.Lists.{all}
 use Rattle.request.specs.Writing.{Field, one, two, four, spelling}
 use Rattle.request.specs.declared.Request.{Request}

@@ -1,3 +1,2 @@
 // No code: what holds of every desk reached from an opening.
 #![tactic(auto)]
-
