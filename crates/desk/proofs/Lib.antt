@@ -1,4 +1,4 @@
--- The laws that the functions' proofs cite, what is printed for an input in pieces, five lines worked out, that the batch agrees, and the folder of a name.
+-- How many digits a number takes, the laws that the functions' proofs cite, what is printed for an input in pieces, five lines worked out, that the batch agrees, and the folder of a name.
 pub mod Places
 pub mod Texts
 pub mod Frames

@@ -6,6 +6,6 @@ abbrev pub folder_length : List ℕ → ℕ
 folder_length [] = 0
 folder_length (byte ∷ name) = cond (eqb byte 47 || not (eqb (folder_length name) 0)) (suc (folder_length name)) 0
 
--- `.XXXXXX`: the system puts other letters for the six
+-- `.XXXXXX`: a new file has other letters for the six
 abbrev pub beside_name : List ℕ → List ℕ
 beside_name name = name ++ (46 ∷ 88 ∷ 88 ∷ 88 ∷ 88 ∷ 88 ∷ 88 ∷ [])

@@ -21,7 +21,7 @@ pub(crate) fn folder_length(name: &[u8]) -> usize
     0
 }
 
-// The name of a new file, as the system wants it: with six letters at its end for others.
+// The name of a new file beside it, with six letters at its end for which `put_letters` puts others.
 pub(crate) fn put_beside(name: &[u8], out: &mut [u8]) -> usize
     requires { length name.now + 7 ≤ length out.old }
     ensures put { Put out.old 0 (beside_name name.now) result out.new }

@@ -33,4 +33,4 @@ put_part-requires c =
     let a = c.append-b in
     let q = c.put_part-c in
     let r = c.put_part-d in
-    omega (arith, c.requires, p.ensures.ends, p.auto, a.ensures.ends, a.auto, q.ensures.ends, q.auto, r.ensures.ends, r.auto, decimal_short c.wide.result, decimal_short c.args.reason.id, decimal_short c.args.reason.held, ap length k.ensures)
+    omega (arith, c.requires, p.ensures.ends, p.auto, a.ensures.ends, a.auto, q.ensures.ends, q.auto, r.ensures.ends, r.auto, decimal_short c.wide.result, decimal_short c.args.reason.id, decimal_short c.args.reason.held, decimal_short c.args.reason.wanted, ap length k.ensures)
