@@ -42,11 +42,7 @@ Below x end r = x < end → r ≡ body_length x
 pub start : {x first end n : ℕ} → T (level n first (end - first)) → first ≤ x → Below x end n
 start {x} {first} {end} {n} t reached h = within n first (end - first) x t reached (omega arith)
 
--- what a comparison with a range's first kind says: below it the length stays, and else it is the range's n
-abbrev pub Compared : ℕ → ℕ → ℕ → ℕ → ℕ → Type 0
-Compared x first n below r = (x < first × r ≡ below) ⊎ (first ≤ x × r ≡ n)
-
--- the length stays below the range, and is the range's n up to the next one
-pub range : (x first end n below r : ℕ) → T (level n first (end - first)) → Compared x first n below r → Below x first below → Below x end r
-range x first end n below r t (inl (under, e)) right _ = e ∙ right under
-range x first end n below r t (inr (reached, e)) right h = e ∙ start t reached h
+-- the arms of a comparison with a range's first kind: the length stays below the range, and is the range's n up to the next one
+pub range : {A B : Type 0} {x first end n below r : ℕ} → T (level n first (end - first)) → (A × (r ≡ below)) ⊎ (B × (r ≡ n)) → (A → x < first) → (B → first ≤ x) → Below x first below → Below x end r
+range t (inl (a, e)) under reached right _ = e ∙ right (under a)
+range t (inr (b, e)) under reached right h = e ∙ start t (reached b) h
