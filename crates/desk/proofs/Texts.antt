@@ -104,6 +104,20 @@ put_nothing O at = record { ends = omega arith; is = sym (append-nil (take at O)
 pub put_as : {O O' s t : List ℕ} {at b : ℕ} → s ≡ t → Put O at s b O' → Put O at t b O'
 put_as {O = O} {O' = O'} {at = at} {b = b} e p = subst (λ (x : List ℕ). Put O at x b O') e p
 
+-- what a copy of S leaves of O when it is lent the part behind `at`: ys, with S at its front
+pub appended : (O S ys : List ℕ) (at r : ℕ) → at + length S ≤ length O → r ≡ length S
+    → ys ≡ take (length S) S ++ drop (length S) (take (length O - at) (drop at O))
+    → Put O at S (at + r) (take at O ++ (ys ++ drop (length O - at) (drop at O)))
+appended O S ys at r fits is-r is-ys =
+    let D : List ℕ = drop (length S) (take (length O - at) (drop at O)) in
+    let E : List ℕ = drop (length O - at) (drop at O) in
+    let split : take at O ++ (ys ++ E) ≡ (take at O ++ S) ++ (D ++ E) = simp (is-ys, take-length, append_assoc) in
+    let len : length (take at O ++ S) ≡ at + r = simp (length-append, length-take-le at O (omega arith), is-r) in
+    record {
+      ends = ap (λ (k : ℕ). at + k) is-r;
+      is = ap (take (at + r)) split ∙ take_at (take at O ++ S) (D ++ E) (at + r) len;
+    }
+
 -- ---- bytes moved to the front: a turn of the copy, and its end
 pub kept_more : (B₀ B : List ℕ) (from i : ℕ) → from + i < length B₀ → B ≡ paste B₀ 0 (drop from B₀) i
     → set B i (get_or B (from + i) 0) ≡ paste B₀ 0 (drop from B₀) (i + 1)

@@ -3,12 +3,12 @@
 // The line written has the name, the stop, the request bytes used, the answer bytes written, the last number then, and every byte of the answer room.
 #![tactic(auto)]
 
-ghost use Rattle.std.specs.Prelude.{◌<◌, ◌≤◌, length};
+ghost use Rattle.std.specs.Prelude.{◌≡◌, ◌<◌, ◌≤◌, length, IfOk};
 
 use kept::Log;
 use records::{Cells, Rule};
 use std::io;
-use std::io::{BufWriter, Read, Write};
+use std::io::{Read, Write};
 
 // ---- what is written
 fn say<W: Write>(out: &mut W, text: &[u8]) -> io::Result<()> {
@@ -334,11 +334,32 @@ fn every_kind<W: Write>(out: &mut W) -> io::Result<()> {
     say(out, b"\n")
 }
 
+// ---- the input
+fn input_room() -> [u8; 65536]
+    ensures { 65536 ≡ length result }
+{
+    [0; 65536]
+}
+
+// What stands at the front of the input, as much as there is room for; the answer is how much.
+fn read_input(rt: &HostRuntime, input: &mut [u8]) -> io::Result<usize>
+    ensures { IfOk result (λ n. n ≤ length input.new) }
+{
+    let mut have: usize = 0;
+    while have < input.len() {
+        let got = rt.stdin().read(&mut input[have..])?;
+        if got == 0 {
+            break;
+        }
+        have += got;
+    }
+    Ok(have)
+}
+
 fn main(rt: HostRuntime) -> io::Result<()> {
-    let mut input = Vec::new(rt.alloc());
-    rt.reader().read_to_end(&mut input)?;
-    let mut out = BufWriter::new(rt.alloc(), io::writer(&rt))?;
-    cases(&mut out, &input)?;
-    every_kind(&mut out)?;
-    out.flush()
+    let mut input = input_room();
+    let n = read_input(&rt, &mut input)?;
+    let mut out = io::writer(&rt);
+    cases(&mut out, &input[..n])?;
+    every_kind(&mut out)
 }

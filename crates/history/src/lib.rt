@@ -150,6 +150,7 @@ pub fn act(
 }
 
 // One request, on any desk under the rule.
+#[tactic(auto, using(crate::proofs::Laws::taken_is))]
 pub fn take(
     base: &mut Cells,
     log: &mut Log,

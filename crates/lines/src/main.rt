@@ -3,13 +3,13 @@
 // the ruling: C0 and n added, refused with n; 80, granted; 81, granted with a number; 20, a change may be taken back.
 #![tactic(auto)]
 
-ghost use Rattle.std.specs.Prelude.{◌<◌};
+ghost use Rattle.std.specs.Prelude.{◌≡◌, ◌<◌, ◌≤◌, length, IfOk};
 
 use judge::Ruling;
 use records::{Cells, Draft, Rule, Script, Session, User};
 use request::Frame;
 use std::io;
-use std::io::{BufWriter, Read, Write};
+use std::io::{Read, Write};
 
 // ---- the houses; a set of places has place p as bit p
 fn user(sort: u8, level: u8, categories: u16, rooms: u32, leads: u32, admin: bool) -> User {
@@ -313,10 +313,31 @@ fn run<W: Write>(out: &mut W, input: &[u8]) -> io::Result<()> {
     Ok(())
 }
 
+// ---- the input
+fn input_room() -> [u8; 65536]
+    ensures { 65536 ≡ length result }
+{
+    [0; 65536]
+}
+
+// What stands at the front of the input, as much as there is room for; the answer is how much.
+fn read_input(rt: &HostRuntime, input: &mut [u8]) -> io::Result<usize>
+    ensures { IfOk result (λ n. n ≤ length input.new) }
+{
+    let mut have: usize = 0;
+    while have < input.len() {
+        let got = rt.stdin().read(&mut input[have..])?;
+        if got == 0 {
+            break;
+        }
+        have += got;
+    }
+    Ok(have)
+}
+
 fn main(rt: HostRuntime) -> io::Result<()> {
-    let mut input = Vec::new(rt.alloc());
-    rt.reader().read_to_end(&mut input)?;
-    let mut out = BufWriter::new(rt.alloc(), io::writer(&rt))?;
-    run(&mut out, &input)?;
-    out.flush()
+    let mut input = input_room();
+    let n = read_input(&rt, &mut input)?;
+    let mut out = io::writer(&rt);
+    run(&mut out, &input[..n])
 }

@@ -9,7 +9,7 @@ mod steps;
 
 use records::Cells;
 use std::io;
-use std::io::{BufWriter, Write};
+use std::io::Write;
 use steps::{fill, step};
 
 // A freelancer keeps the label at a second room, and is relabelled only when in no room.
@@ -225,7 +225,7 @@ fn scenes<W: Write>(out: &mut W) -> io::Result<()> {
 }
 
 fn main(rt: HostRuntime) -> io::Result<()> {
-    let mut out = BufWriter::new(rt.alloc(), io::writer(&rt))?;
+    let mut out = io::writer(&rt);
     scenes(&mut out)?;
     out.flush()
 }
