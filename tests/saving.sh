@@ -154,6 +154,10 @@ not_saved folder
 is_image ../old folder/inside
 try --save ''
 not_saved ''
+# A name is text in UTF-8: another opens no file.
+odd=$(printf 'image\377')
+try --save "$odd"
+not_saved "$odd"
 if [ "$(id -u)" != 0 ]; then
     cp ../old folder/image
     chmod 555 folder
@@ -236,6 +240,11 @@ for name in missing folder missing/image other/image ''; do
     not_opened "desk: $name: ?*"
     is_image ../old image
 done
+cp ../old "$odd"
+try --from "$odd"
+not_opened "desk: $odd: ?*"
+is_image ../old "$odd"
+rm "$odd"
 rmdir folder
 
 # Files that are no image, with the refusal that they get. 13,107 counters and one byte are 65,536 bytes, which end inside a body;
