@@ -50,14 +50,14 @@ pub digits_step : (i k rest g : ℕ) (out : List ℕ) → 0 < i → i ≤ k → 
     → last_digits 10 (i - 1) (rest / 10) ++ slice (i - 1) k (set out (i - 1) g) ≡ last_digits 10 i rest ++ slice i k out
 digits_step zero k rest g out some h room e = absurd (not-suc-le-zero some)
 digits_step (suc j) k rest g out some h room e =
-    let todo = last_digits 10 j (rest / 10) in
+    let ahead = last_digits 10 j (rest / 10) in
     let done = slice (suc j) k out in
     let within : j < length (take k out) = subst (λ (n : ℕ). j < n) (sym (length-take-le k out room)) h in
     ap (λ (m : ℕ). last_digits 10 m (rest / 10) ++ slice m k (set out m g)) (sub-one (suc j))
-    ∙ ap (λ (l : List ℕ). todo ++ drop j l) (take-set-lt k out j g h)
-    ∙ ap (λ (l : List ℕ). todo ++ l) (drop-set (take k out) j g within)
-    ∙ ap (λ (x : ℕ). todo ++ x ∷ done) e
-    ∙ sym (append_snoc todo (digit_ascii (rest % 10)) done)
+    ∙ ap (λ (l : List ℕ). ahead ++ drop j l) (take-set-lt k out j g h)
+    ∙ ap (λ (l : List ℕ). ahead ++ l) (drop-set (take k out) j g within)
+    ∙ ap (λ (x : ℕ). ahead ++ x ∷ done) e
+    ∙ sym (append_snoc ahead (digit_ascii (rest % 10)) done)
 
 -- the code of a digit
 pub digit_is : (d : ℕ) → d < 10 → 48 + d ≡ digit_ascii d
