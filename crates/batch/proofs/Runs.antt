@@ -1,4 +1,5 @@
 -- The ways a batch goes: by its four stops, and by a request with a batch behind it.
+use Rattle.std.specs.Prelude.{Ok, Err}
 use mathlib.Core.Path.{◌≡◌, sym, ap, ◌∙◌, subst}
 use mathlib.Core.List.{List, [], ◌∷◌}
 use Prim.Native.Nat.{ℕ, suc, ◌-◌, ◌≤◌, ◌<◌}
@@ -9,7 +10,6 @@ use Rattle.request.specs.Bytes.{◌#◌}
 use Rattle.request.specs.Kinds.{body_length}
 use Rattle.request.specs.Reading.{frame_of}
 use Rattle.request.specs.Framing.{Series}
-use Rattle.request.specs.declared.Frame.{Frame}
 use Rattle.request.specs.declared.Request.{Request}
 use Rattle.request.proofs.Framing.{Cuts, nothing, whole, cuts, whole_is}
 use Rattle.request.proofs.Framing as framing
@@ -20,13 +20,14 @@ use Rattle.batch.specs.Pieces.{behind}
 use Rattle.batch.specs.declared.Stop.{Stop}
 use Rattle.batch.proofs.Steps.{answered, stopped, over_none, over_unknown, over_cut, over_no_room, over_request}
 use Rattle.records.specs.declared.Rule.{Rule}
+use Rattle.request.specs.declared.FrameError.TheVariants.{Unknown, Cut}
 
 pub data Runs (rule : Rule) : State → List ℕ → ℕ → Result → Type 0 where
   no_bytes : {d : State} {b : List ℕ} {room : ℕ} → b ≡ [] → Runs rule d b room (stopped d Stop.End [])
   no_room : {d : State} {b : List ℕ} {room : ℕ} → 0 < length b → room < 5 → Runs rule d b room (stopped d Stop.NoRoom [])
-  unknown : {d : State} {b : List ℕ} {room : ℕ} → 0 < length b → 5 ≤ room → frame_of b ≡ Frame.Unknown → Runs rule d b room (stopped d Stop.Unknown (0xC1 ∷ []))
-  cut : {d : State} {b : List ℕ} {room : ℕ} → 0 < length b → 5 ≤ room → frame_of b ≡ Frame.Cut → Runs rule d b room (stopped d Stop.Cut (0xC2 ∷ []))
-  request : {d : State} {b : List ℕ} {room : ℕ} → 0 < length b → 5 ≤ room → (q : Request) → frame_of b ≡ Frame.Whole q → (r : Result)
+  unknown : {d : State} {b : List ℕ} {room : ℕ} → 0 < length b → 5 ≤ room → frame_of b ≡ Err Unknown → Runs rule d b room (stopped d Stop.Unknown (0xC1 ∷ []))
+  cut : {d : State} {b : List ℕ} {room : ℕ} → 0 < length b → 5 ≤ room → frame_of b ≡ Err Cut → Runs rule d b room (stopped d Stop.Cut (0xC2 ∷ []))
+  request : {d : State} {b : List ℕ} {room : ℕ} → 0 < length b → 5 ≤ room → (q : Request) → frame_of b ≡ Ok q → (r : Result)
       → Runs rule (step (desk_rules rule) d q).desk (drop (suc (body_length (b # 0))) b) (room - length (answered rule d q)) r
       → Runs rule d b room (behind (suc (body_length (b # 0))) (answered rule d q) r)
 

@@ -1,4 +1,5 @@
 -- The batch of specs/, one request at a time.
+use Rattle.std.specs.Prelude.{Ok, Err}
 use mathlib.Core.Path.{◌≡◌, refl, sym, ap, ◌∙◌}
 use mathlib.Core.List.{List, [], ◌++◌, append_assoc}
 use Prim.Native.Nat.{ℕ, suc, ◌+◌, ◌-◌, ◌≤◌, ◌<◌}
@@ -12,7 +13,6 @@ use Rattle.request.specs.Kinds.{body_length}
 use Rattle.request.specs.Reading.{frame_of}
 use Rattle.request.specs.Writing.{written}
 use Rattle.request.specs.Framing.{no_bytes, unknown_kind, cut_body, Series, ends, before, series_of, written_out}
-use Rattle.request.specs.declared.Frame.{Frame}
 use Rattle.request.specs.declared.Request.{Request}
 use Rattle.request.proofs.Framing.{Cuts, nothing, unknown, cut, whole, cuts, whole_is, series_empty, series_unknown, series_cut, series_whole}
 use Rattle.records.specs.House.{House}
@@ -24,6 +24,7 @@ use Rattle.history.specs.declared.Answer.{Answer}
 use Rattle.batch.specs.Batch.{State, Result, bytes_of, taken_of, left_of, stop_at, closing, run_over, run_batch}
 use Rattle.batch.specs.Pieces.{behind}
 use Rattle.batch.specs.declared.Stop.{Stop}
+use Rattle.request.specs.declared.FrameError.TheVariants.{Unknown, Cut}
 
 pub at_most_five : (a : Answer) → length (answer_bytes a) ≤ 5
 at_most_five Answer.Granted = lit≤ tt
@@ -95,15 +96,15 @@ module _ (rule : Rule) (d : State) (room : ℕ) where
   unfolding run_batch
   with_no_room b l h = over_no_room rule d room (cuts b) l h
 
-  pub with_unknown : (b : List ℕ) → 5 ≤ room → frame_of b ≡ Frame.Unknown → run_batch rule d b room ≡ stopped d Stop.Unknown (answer_bytes (Answer.Refused 1))
+  pub with_unknown : (b : List ℕ) → 5 ≤ room → frame_of b ≡ Err Unknown → run_batch rule d b room ≡ stopped d Stop.Unknown (answer_bytes (Answer.Refused 1))
   unfolding run_batch
   with_unknown b h f = ap (λ (s : Series). run_over rule d s room) (series_unknown b f) ∙ over_unknown rule d room (b # 0) h
 
-  pub with_cut : (b : List ℕ) → 0 < length b → 5 ≤ room → frame_of b ≡ Frame.Cut → run_batch rule d b room ≡ stopped d Stop.Cut (answer_bytes (Answer.Refused 2))
+  pub with_cut : (b : List ℕ) → 0 < length b → 5 ≤ room → frame_of b ≡ Err Cut → run_batch rule d b room ≡ stopped d Stop.Cut (answer_bytes (Answer.Refused 2))
   unfolding run_batch
   with_cut b l h f = ap (λ (s : Series). run_over rule d s room) (series_cut b l f) ∙ over_cut rule d room (b # 0) h
 
-  pub with_request : (b : List ℕ) → 5 ≤ room → (q : Request) → frame_of b ≡ Frame.Whole q → (o : Outcome House Change) → step (desk_rules rule) d q ≡ o
+  pub with_request : (b : List ℕ) → 5 ≤ room → (q : Request) → frame_of b ≡ Ok q → (o : Outcome House Change) → step (desk_rules rule) d q ≡ o
       → (n : ℕ) → body_length (b # 0) ≡ n
       → run_batch rule d b room ≡ behind (suc n) (answer_bytes o.answer) (run_batch rule o.desk (drop (suc n) b) (room - length (answer_bytes o.answer)))
   unfolding run_batch

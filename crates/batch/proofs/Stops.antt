@@ -1,4 +1,5 @@
 -- "the batch ends at the first of four stops": what each stop says of the bytes used and written.
+use Rattle.std.specs.Prelude.{Result}
 use mathlib.Core.Path.{◌≡◌, refl, sym, ap, ◌∙◌, subst}
 use mathlib.Core.List.{List, [], ◌∷◌, ◌++◌, append_assoc}
 use Prim.Native.Nat.{ℕ, suc, ◌+◌, ◌-◌, ◌<◌}
@@ -8,7 +9,6 @@ use lib.Seq.{drop-drop}
 use Rattle.request.specs.Bytes.{◌#◌}
 use Rattle.request.specs.Kinds.{body_length}
 use Rattle.request.specs.Reading.{frame_of}
-use Rattle.request.specs.declared.Frame.{Frame}
 use Rattle.request.proofs.Framing.{whole_is}
 use Rattle.batch.specs.Batch.{State, Result, run_batch, Batched}
 use Rattle.batch.specs.Stops.{AtFrame, Means}
@@ -17,13 +17,15 @@ use Rattle.batch.specs.declared.Ran.{Ran}
 use Rattle.batch.proofs.Steps.{answered}
 use Rattle.batch.proofs.Runs.{Runs, no_bytes, no_room, unknown, cut, request, runs}
 use Rattle.records.specs.declared.Rule.{Rule}
+use Rattle.request.specs.declared.FrameError.{FrameError}
+use Rattle.request.specs.declared.Request.{Request}
 
 -- what holds behind a request holds of the whole
 module _ (b : List ℕ) (room n : ℕ) (inside : n < length b) (bs : List ℕ) where
   left : length (drop (suc n) b) ≡ length b - suc n
   left = length-drop (suc n) b
 
-  frame_before : {f : Frame} {x used : ℕ} {bytes : List ℕ} → AtFrame f x (drop (suc n) b) used bytes → AtFrame f x b (suc n + used) (bs ++ bytes)
+  frame_before : {f : Result Request FrameError} {x used : ℕ} {bytes : List ℕ} → AtFrame f x (drop (suc n) b) used bytes → AtFrame f x b (suc n + used) (bs ++ bytes)
   frame_before {f} {x} {used} {bytes} a =
       record {
         bytes_left = omega (arith, a.bytes_left, left);

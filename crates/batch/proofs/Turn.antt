@@ -1,4 +1,5 @@
 -- What a turn of the batch's loop does to the lists.
+use Rattle.std.specs.Prelude.{Result, Ok, Err}
 use mathlib.Core.Path.{◌≡◌, refl, sym, ap, ◌∙◌, subst}
 use mathlib.Core.List.{List, [], ◌++◌, append_assoc, append-nil}
 use Prim.Native.Nat.{ℕ, suc, ◌+◌, ◌-◌, ◌≤◌, ◌<◌}
@@ -9,9 +10,7 @@ use lib.Seq.{take_all, take_at, drop_at, drop-drop, length-take-le}
 use Rattle.request.specs.Bytes.{◌#◌}
 use Rattle.request.specs.Kinds.{body_length}
 use Rattle.request.specs.Reading.{request_of, frame_of, length_in, start_of}
-use Rattle.request.specs.declared.Frame.{Frame}
 use Rattle.request.specs.declared.Request.{Request}
-use Rattle.request.specs.declared.Start.{Start}
 use Rattle.request.proofs.Framing.{whole_is}
 use Rattle.request.proofs.Ways.{framed, as_framed}
 use Rattle.history.specs.Machine.{outcome, step}
@@ -23,6 +22,8 @@ use Rattle.batch.specs.declared.Ran.{Ran}
 use Rattle.batch.specs.declared.Stop.{Stop}
 use Rattle.batch.proofs.Steps.{at_most_five, stopped, behind_none, behind_behind, with_no_bytes, with_no_room, with_unknown, with_cut, with_request}
 use Rattle.records.specs.declared.Rule.{Rule}
+use Rattle.request.specs.declared.FrameError.{FrameError}
+use Rattle.request.specs.declared.FrameError.TheVariants.{Unknown, Cut}
 
 -- the buffer A once its part from `at` on has come back as ys
 abbrev pub back : List ℕ → ℕ → List ℕ → List ℕ
@@ -35,10 +36,10 @@ lent A ys bs at k is-k is-ys =
     let l : length (drop at A) ≤ k = simp length-drop (omega arith) in
     simp (is-ys, take_all k (drop at A) l, drop_of_length-le (drop at A) l, drop-drop, append-nil)
 
-length_or0 : Start → ℕ
-length_or0 (Start.Whole n) = n
-length_or0 Start.Unknown = 0
-length_or0 Start.Cut = 0
+length_or0 : Result ℕ FrameError → ℕ
+length_or0 (Ok n) = n
+length_or0 (Err Unknown) = 0
+length_or0 (Err Cut) = 0
 
 -- where the loop turns: the requests R, the buffer A₀ and the desk d₀ at the start, the buffer A and the desk d now
 pub record Underway (rule : Rule) (R A₀ : List ℕ) (place : ℕ) (d₀ : State) (A : List ℕ) (d : State) (used at : ℕ) : Type 0 where
@@ -131,7 +132,7 @@ module _ {rule : Rule} {R A₀ : List ℕ} {place : ℕ} {d₀ : State} {A : Lis
         ∙ simp (length-append, length-take-le at A (omega arith), length-drop) (omega (arith, h.same_length))
 
   -- a turn: there are request bytes and answer room, and the rest of the bytes begins so
-  module _ (in-R : used < length R) (room : ℕ) (is-room : room ≡ length A - at) (five : 5 ≤ room) (f : Start) (is_f : f ≡ start_of (take (length R - used) (drop used R))) where
+  module _ (in-R : used < length R) (room : ℕ) (is-room : room ≡ length A - at) (five : 5 ≤ room) (f : Result ℕ FrameError) (is_f : f ≡ start_of (take (length R - used) (drop used R))) where
     room₀ : 5 ≤ length A₀ - at
     room₀ = omega (arith, h.same_length)
 
@@ -142,8 +143,8 @@ module _ {rule : Rule} {R A₀ : List ℕ} {place : ℕ} {d₀ : State} {A : Lis
     begins = sym (is_f ∙ ap start_of all_of_it)
 
     -- the frame there, where f is s
-    ahead : (s : Start) → f ≡ s → frame_of (drop used R) ≡ framed s (request_of (drop used R # 0) (drop used R))
-    ahead s is = as_framed (drop used R) ∙ ap (λ (t : Start). framed t (request_of (drop used R # 0) (drop used R))) (begins ∙ is)
+    ahead : (s : Result ℕ FrameError) → f ≡ s → frame_of (drop used R) ≡ framed s (request_of (drop used R # 0) (drop used R))
+    ahead s is = as_framed (drop used R) ∙ ap (λ (t : Result ℕ FrameError). framed t (request_of (drop used R # 0) (drop used R))) (begins ∙ is)
 
     -- the answer a of r bytes is written, and the batch ends by the stop s
     ends : (s : Stop) (a : Answer) → run_batch rule d (drop used R) (length A₀ - at) ≡ stopped d s (answer_bytes a)
@@ -158,19 +159,19 @@ module _ {rule : Rule} {R A₀ : List ℕ} {place : ℕ} {d₀ : State} {A : Lis
           (as_long bs ys fits is-ys, omega (arith, h.place_now)),
         )
 
-    pub unknown : f ≡ Start.Unknown → (r : ℕ) → r ≡ length (answer_bytes (Answer.Refused 1))
+    pub unknown : f ≡ Err Unknown → (r : ℕ) → r ≡ length (answer_bytes (Answer.Refused 1))
         → (ys : List ℕ) → ys ≡ answer_bytes (Answer.Refused 1) ++ drop (length (answer_bytes (Answer.Refused 1))) (take (length A - at) (drop at A))
         → Over rule R A₀ place d₀ d used (back A at ys) (at + r) Stop.Unknown
-    unknown u = ends Stop.Unknown (Answer.Refused 1) (with_unknown rule d (length A₀ - at) (drop used R) room₀ (ahead Start.Unknown u))
+    unknown u = ends Stop.Unknown (Answer.Refused 1) (with_unknown rule d (length A₀ - at) (drop used R) room₀ (ahead (Err Unknown) u))
 
-    pub cut : f ≡ Start.Cut → (r : ℕ) → r ≡ length (answer_bytes (Answer.Refused 2))
+    pub cut : f ≡ Err Cut → (r : ℕ) → r ≡ length (answer_bytes (Answer.Refused 2))
         → (ys : List ℕ) → ys ≡ answer_bytes (Answer.Refused 2) ++ drop (length (answer_bytes (Answer.Refused 2))) (take (length A - at) (drop at A))
         → Over rule R A₀ place d₀ d used (back A at ys) (at + r) Stop.Cut
-    cut u = ends Stop.Cut (Answer.Refused 2) (with_cut rule d (length A₀ - at) (drop used R) (some_left in-R) room₀ (ahead Start.Cut u))
+    cut u = ends Stop.Cut (Answer.Refused 2) (with_cut rule d (length A₀ - at) (drop used R) (some_left in-R) room₀ (ahead (Err Cut) u))
 
-    module _ (n : ℕ) (is-n : f ≡ Start.Whole n) (q : Request) (is-q : q ≡ request_of (take (length R - used) (drop used R) # 0) (take (length R - used) (drop used R))) where
-      whole_ahead : frame_of (drop used R) ≡ Frame.Whole q
-      whole_ahead = ahead (Start.Whole n) is-n ∙ ap Frame.Whole (sym (is-q ∙ ap (λ (b : List ℕ). request_of (b # 0) b) all_of_it))
+    module _ (n : ℕ) (is-n : f ≡ Ok n) (q : Request) (is-q : q ≡ request_of (take (length R - used) (drop used R) # 0) (take (length R - used) (drop used R))) where
+      whole_ahead : frame_of (drop used R) ≡ Ok q
+      whole_ahead = ahead (Ok n) is-n ∙ ap Ok (sym (is-q ∙ ap (λ (b : List ℕ). request_of (b # 0) b) all_of_it))
 
       kind_ahead : body_length (drop used R # 0) ≡ n
       unfolding body_length length_or0

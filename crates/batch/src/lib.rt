@@ -8,7 +8,7 @@ ghost use Rattle.batch.specs.Batch.{stop_number, returned, Batched};
 use history::{Answer, Desk};
 use kept::Log;
 use records::{Cells, Rule};
-use request::Start;
+use request::FrameError;
 
 // Why a batch ended: no bytes left, no answer room, an unknown kind, a cut body.
 #[derive(Clone, Copy)]
@@ -106,17 +106,16 @@ pub fn run(
         if room_left(answers.len(), at) < 5 {
             break Stop::NoRoom;
         }
-        let start = request::start_of(&requests[used..]);
-        match start {
-            Start::Unknown => {
+        match request::start_of(&requests[used..]) {
+            Err(FrameError::Unknown) => {
                 at += put_answer(&mut answers[at..], Answer::Refused(1));
                 break Stop::Unknown;
             }
-            Start::Cut => {
+            Err(FrameError::Cut) => {
                 at += put_answer(&mut answers[at..], Answer::Refused(2));
                 break Stop::Cut;
             }
-            Start::Whole(length) => {
+            Ok(length) => {
                 let request = request::first(&requests[used..]);
                 let answer = history::take(base, log, current, last, rule, request);
                 at += put_answer(&mut answers[at..], answer);

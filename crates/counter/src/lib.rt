@@ -11,27 +11,21 @@ pub struct Counter {
 }
 
 #[derive(Clone, Copy)]
-pub enum Next {
-    Number(u32),
-    Spent,
-}
-
-#[derive(Clone, Copy)]
 pub struct Issued {
-    pub next: Next,
+    pub next: Option<u32>,
     pub last: u32,
 }
 
 // The largest number that there is.
 const TOP: u32 = 4294967295;
 
-fn next_after(last: u32) -> Next
+fn next_after(last: u32) -> Option<u32>
     ensures { result ≡ next_after last }
 {
     if last == TOP {
-        return Next::Spent;
+        return None;
     }
-    Next::Number(last + 1)
+    Some(last + 1)
 }
 
 fn stepped(last: u32) -> u32
@@ -43,8 +37,8 @@ fn stepped(last: u32) -> u32
     last + 1
 }
 
-// Hands out the number after the last and steps there, or says that the numbers are spent.
-pub fn issue(counter: &mut Counter) -> Next
+// Hands out the number after the last and steps there, or none where the numbers are spent.
+pub fn issue(counter: &mut Counter) -> Option<u32>
     ensures { (result ≡ next_after counter.old.last) × (counter.new.last ≡ last_after counter.old.last) }
 {
     let last = counter.last;

@@ -1,4 +1,5 @@
 -- What the first bytes hold, when more bytes follow them: one request, and a series.
+use Rattle.std.specs.Prelude.{Ok, Err}
 use mathlib.Core.Path.{◌≡◌, refl, sym, ap, ◌∙◌, subst}
 use mathlib.Core.Bool.{Bool, true, false, cond}
 use mathlib.Core.List.{List, [], ◌∷◌, ◌++◌}
@@ -13,7 +14,6 @@ use Rattle.request.specs.Kinds.{Row, Sought, at, none, rows, find, body_length}
 use Rattle.request.specs.Reading.{fields_from, frame_at, frame_of}
 use Rattle.request.specs.Writing.{written}
 use Rattle.request.specs.Framing.{End, no_bytes, unknown_kind, cut_body, Series, ends, before, series_of, written_out}
-use Rattle.request.specs.declared.Frame.TheVariants.{Whole, Unknown, Cut}
 use Rattle.request.specs.declared.Request.{Request}
 use Rattle.request.proofs.Rows.{short_found}
 use Rattle.request.proofs.More.{frame_more}
@@ -27,44 +27,45 @@ use Rattle.history.specs.Machine.{Desk, step}
 use Rattle.history.specs.Desk.{desk_rules}
 use Rattle.desk.specs.Answers.{given_to}
 use Rattle.desk.specs.Turns.{reads_on}
+use Rattle.request.specs.declared.FrameError.TheVariants.{Unknown, Cut}
 
 -- the row of the first byte decides
 row_decides : (kind : ℕ) (rest : List ℕ) → frame_of (kind ∷ rest) ≡ frame_at (find rows kind) (kind ∷ rest)
 row_decides kind rest = by_row (kind ∷ rest) (λ e. omega (arith, e)) (find rows kind) refl
 
 module _ (kind : ℕ) (rest : List ℕ) where
-  unknown_first : frame_of (kind ∷ rest) ≡ Unknown → (later : List ℕ) → frame_of (kind ∷ rest ++ later) ≡ Unknown
+  unknown_first : frame_of (kind ∷ rest) ≡ Err Unknown → (later : List ℕ) → frame_of (kind ∷ rest ++ later) ≡ Err Unknown
   unknown_first e later = row_decides kind (rest ++ later) ∙ by (find rows kind) (sym (row_decides kind rest) ∙ e)
     where
-      of_row : (r : Row) (t : Bool) → cond t Cut (Whole (fields_from (kind ∷ rest) 1 r.body)) ≡ Unknown → frame_at (at r) (kind ∷ rest ++ later) ≡ Unknown
+      of_row : (r : Row) (t : Bool) → cond t (Err Cut) (Ok (fields_from (kind ∷ rest) 1 r.body)) ≡ Err Unknown → frame_at (at r) (kind ∷ rest ++ later) ≡ Err Unknown
       of_row r true e = differ cc
       of_row r false e = differ cc
 
-      by : (s : Sought) → frame_at s (kind ∷ rest) ≡ Unknown → frame_at s (kind ∷ rest ++ later) ≡ Unknown
+      by : (s : Sought) → frame_at s (kind ∷ rest) ≡ Err Unknown → frame_at s (kind ∷ rest ++ later) ≡ Err Unknown
       by none e = refl
       by (at r) e = of_row r (leb (length (kind ∷ rest)) r.length) e
 
   -- a cut request has at most eight of its bytes
-  cut_short : frame_of (kind ∷ rest) ≡ Cut → length (kind ∷ rest) ≤ 8
+  cut_short : frame_of (kind ∷ rest) ≡ Err Cut → length (kind ∷ rest) ≤ 8
   cut_short e = by (find rows kind) refl (sym (row_decides kind rest) ∙ e)
     where
-      of_row : (r : Row) → r.length ≤ 8 → (t : Bool) → leb (length (kind ∷ rest)) r.length ≡ t → cond t Cut (Whole (fields_from (kind ∷ rest) 1 r.body)) ≡ Cut → length (kind ∷ rest) ≤ 8
+      of_row : (r : Row) → r.length ≤ 8 → (t : Bool) → leb (length (kind ∷ rest)) r.length ≡ t → cond t (Err Cut) (Ok (fields_from (kind ∷ rest) 1 r.body)) ≡ Err Cut → length (kind ∷ rest) ≤ 8
       of_row r short true l e = let h = leb-true (length (kind ∷ rest)) r.length l in omega (arith, h, short)
       of_row r short false l e = differ cc
 
-      by : (s : Sought) → find rows kind ≡ s → frame_at s (kind ∷ rest) ≡ Cut → length (kind ∷ rest) ≤ 8
+      by : (s : Sought) → find rows kind ≡ s → frame_at s (kind ∷ rest) ≡ Err Cut → length (kind ∷ rest) ≤ 8
       by none f e = differ cc
       by (at r) f e = of_row r (short_found kind r rows tt f) (leb (length (kind ∷ rest)) r.length) refl e
 
-whole_more : (b : List ℕ) (q : Request) → frame_of b ≡ Whole q → (later : List ℕ) → frame_of (b ++ later) ≡ Whole q
+whole_more : (b : List ℕ) (q : Request) → frame_of b ≡ Ok q → (later : List ℕ) → frame_of (b ++ later) ≡ Ok q
 whole_more [] q e later = absurd (omega (arith, (whole_is [] q e).inside))
 whole_more (kind ∷ rest) q e later = frame_more (kind ∷ rest) later (omega arith) q e
 
-unknown_more : (b : List ℕ) → 0 < length b → frame_of b ≡ Unknown → (later : List ℕ) → frame_of (b ++ later) ≡ Unknown
+unknown_more : (b : List ℕ) → 0 < length b → frame_of b ≡ Err Unknown → (later : List ℕ) → frame_of (b ++ later) ≡ Err Unknown
 unknown_more [] l e later = absurd (omega (arith, l))
 unknown_more (kind ∷ rest) l e later = unknown_first kind rest e later
 
-cut_few : (b : List ℕ) → frame_of b ≡ Cut → length b ≤ 8
+cut_few : (b : List ℕ) → frame_of b ≡ Err Cut → length b ≤ 8
 cut_few [] e = omega arith
 cut_few (kind ∷ rest) e = cut_short kind rest e
 
@@ -79,10 +80,10 @@ onwards (unknown_kind kind) b = ends (unknown_kind kind)
 onwards (cut_body kind) b = series_of b
 
 -- the bytes of a series' first request, and of the others
-both : (b : List ℕ) (q : Request) → frame_of b ≡ Whole q → (W : List ℕ) → length (written q ++ W) ≡ suc (body_length (b # 0)) + length W
+both : (b : List ℕ) (q : Request) → frame_of b ≡ Ok q → (W : List ℕ) → length (written q ++ W) ≡ suc (body_length (b # 0)) + length W
 both b q f W = length-append (written q) W ∙ ap (λ (n : ℕ). n + length W) (whole_is b q f).size
 
-past_both : (b : List ℕ) (q : Request) → frame_of b ≡ Whole q → (W : List ℕ) → drop (length W) (drop (suc (body_length (b # 0))) b) ≡ drop (length (written q ++ W)) b
+past_both : (b : List ℕ) (q : Request) → frame_of b ≡ Ok q → (W : List ℕ) → drop (length W) (drop (suc (body_length (b # 0))) b) ≡ drop (length (written q ++ W)) b
 past_both b q f W = drop-drop (length W) (suc (body_length (b # 0))) b ∙ ap (λ (n : ℕ). drop n b) (sym (both b q f W))
 
 pub more_follows : {b : List ℕ} {s : Series} → Cuts b s → (later : List ℕ)

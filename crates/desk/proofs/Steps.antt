@@ -1,4 +1,5 @@
 -- One request after the other, and a piece behind the bytes that wait.
+use Rattle.std.specs.Prelude.{Result, Ok, Err}
 use mathlib.Core.Path.{◌≡◌, refl, sym, ap, ◌∙◌, subst}
 use mathlib.Core.Bool.{Bool, true, false, cond, not}
 use mathlib.Core.List.{List, [], ◌++◌, append_assoc, append-nil}
@@ -13,8 +14,6 @@ use Rattle.request.specs.Kinds.{body_length}
 use Rattle.request.specs.Reading.{frame_of}
 use Rattle.request.specs.Writing.{written}
 use Rattle.request.specs.Framing.{End, no_bytes, unknown_kind, cut_body, Series, by_frame, series_of, written_out}
-use Rattle.request.specs.declared.Frame.{Frame}
-use Rattle.request.specs.declared.Frame.TheVariants.{Whole, Unknown, Cut}
 use Rattle.request.specs.declared.Request.{Request}
 use Rattle.request.proofs.Framing.{whole_is, series_empty, series_unknown, series_cut, series_whole, cuts}
 use Rattle.records.specs.House.{House}
@@ -38,6 +37,8 @@ use Rattle.desk.specs.Steps.{so_far, done, one_of, Made}
 use Rattle.desk.specs.declared.answers.Progress.{Progress}
 use Rattle.desk.proofs.Texts.{line_short, if_asked, put_nothing, put_as}
 use Rattle.desk.proofs.Frames.{used_inside, few_wait, few_answers}
+use Rattle.request.specs.declared.FrameError.{FrameError}
+use Rattle.request.specs.declared.FrameError.TheVariants.{Unknown, Cut}
 
 -- u bytes and a text come before what x tells
 abbrev behind : ℕ → List ℕ → Done → Done
@@ -51,7 +52,7 @@ behind_twice u v s t x =
 
 -- ---- one request, as its frame tells
 module _ (rule : Rule) (why ended : Bool) (d : Desk House Change) (k : ℕ) (R O : List ℕ) (at text : ℕ) (O' : List ℕ) where
-  pub made_whole : (q : Request) (x : Ruling) (a : Answer) (w : Reason) (d' : Desk House Change) (n : ℕ) → Whole q ≡ frame_of R → x ≡ ruling_of rule d.current q
+  pub made_whole : (q : Request) (x : Ruling) (a : Answer) (w : Reason) (d' : Desk House Change) (n : ℕ) → Ok q ≡ frame_of R → x ≡ ruling_of rule d.current q
       → outcome d' a ≡ ruled (desk_rules rule) d (verdict_of q x) → w ≡ cond why (reason_after x d.last (length d.log)) zeros → n ≡ body_length (R # 0)
       → Put O at (line_of why k (R # 0) a w) text O' → Made (one_of rule why ended d k R) O at d' (so_far (k + 1) (n + 1) text true) O'
   unfolding step
@@ -70,13 +71,13 @@ module _ (rule : Rule) (why ended : Bool) (d : Desk House Change) (k : ℕ) (R O
         onward = refl;
       })
 
-  pub made_unknown : Unknown ≡ frame_of R → Put O at (line_of why k (R # 0) (Refused 1) (bare 1)) text O' → Made (one_of rule why ended d k R) O at d (so_far (k + 1) 0 text false) O'
+  pub made_unknown : Err Unknown ≡ frame_of R → Put O at (line_of why k (R # 0) (Refused 1) (bare 1)) text O' → Made (one_of rule why ended d k R) O at d (so_far (k + 1) 0 text false) O'
   made_unknown f put = rw (sym f) (record { desk = refl; ordinal = refl; used = refl; put = put; onward = refl })
 
-  pub made_cut : Cut ≡ frame_of R → ended ≡ true → Put O at (line_of why k (R # 0) (Refused 2) (bare 2)) text O' → Made (one_of rule why ended d k R) O at d (so_far (k + 1) 0 text false) O'
+  pub made_cut : Err Cut ≡ frame_of R → ended ≡ true → Put O at (line_of why k (R # 0) (Refused 2) (bare 2)) text O' → Made (one_of rule why ended d k R) O at d (so_far (k + 1) 0 text false) O'
   made_cut f e put = rw (sym f, e) (record { desk = refl; ordinal = refl; used = refl; put = put; onward = refl })
 
-pub made_waits : (rule : Rule) (why ended : Bool) (d : Desk House Change) (k : ℕ) (R O : List ℕ) (at : ℕ) → Cut ≡ frame_of R → ended ≡ false → Made (one_of rule why ended d k R) O at d (so_far k 0 at true) O
+pub made_waits : (rule : Rule) (why ended : Bool) (d : Desk House Change) (k : ℕ) (R O : List ℕ) (at : ℕ) → Err Cut ≡ frame_of R → ended ≡ false → Made (one_of rule why ended d k R) O at d (so_far k 0 at true) O
 made_waits rule why ended d k R O at f e =
     rw (sym f, e) (record { desk = refl; ordinal = refl; used = refl; put = put_nothing O at; onward = refl })
 
@@ -93,16 +94,16 @@ next rule why ended d k b some = by (frame_of b) refl ended
         → all_of rule why e d k b ≡ done d (k + 1) 0 (line_of why k (b # 0) (Refused n) (bare n)) false
     refused e n s is same = ap (done_with rule why e d k) is ∙ same ∙ ap (λ (t : List ℕ). done d (k + 1) 0 t false) (append-nil (line_of why k (b # 0) (Refused n) (bare n)))
 
-    by : (f : Frame) → frame_of b ≡ f → (ended : Bool)
+    by : (f : Result Request FrameError) → frame_of b ≡ f → (ended : Bool)
         → Next rule why ended d k b (by_frame f (done d (k + 1) 0 (line_of why k (b # 0) (Refused 1) (bare 1)) false)
         (cond ended (done d (k + 1) 0 (line_of why k (b # 0) (Refused 2) (bare 2)) false) (done d k 0 [] true))
         (λ (q : Request). done (step (desk_rules rule) d q).desk (k + 1) (suc (body_length (b # 0))) (line_of why k (b # 0) (step (desk_rules rule) d q).answer (reason_for rule d q)) true))
-    by Unknown f ended = last refl (line_short why k (b # 0) (Refused 1) (bare 1)) (refused ended 1 _ (series_unknown b f) refl)
-    by Cut f true = last refl (line_short why k (b # 0) (Refused 2) (bare 2)) (refused true 2 _ (series_cut b some f) refl)
-    by Cut f false =
+    by (Err Unknown) f ended = last refl (line_short why k (b # 0) (Refused 1) (bare 1)) (refused ended 1 _ (series_unknown b f) refl)
+    by (Err Cut) f true = last refl (line_short why k (b # 0) (Refused 2) (bare 2)) (refused true 2 _ (series_cut b some f) refl)
+    by (Err Cut) f false =
         let e : k + 0 ≡ k = omega arith in
         last {x = done d k 0 [] true} refl (omega arith) (ap (done_with rule why false d k) (series_cut b some f) ∙ ap (λ (n : ℕ). done d n 0 [] true) e)
-    by (Whole q) f ended =
+    by (Ok q) f ended =
         let n : ℕ = suc (body_length (b # 0)) in
         let w = whole_is b q f in
         let inside = w.inside in

@@ -14,7 +14,7 @@ use judge::Ruling;
 use kept::Log;
 use reasons::Reason;
 use records::{Cells, Rule};
-use request::Frame;
+use request::FrameError;
 
 // The ordinal of the next line, the request bytes used, where the lines collected end, and whether more is to be read.
 #[derive(Clone, Copy)]
@@ -73,9 +73,8 @@ fn answer_next(
     ensures { Made (one_of rule why ended (shown base.old log.old current.old last.old) ordinal requests.now) out.old at (shown base.new log.new current.new last.new) result out.new }
 {
     let kind = requests[0];
-    let frame = request::read(requests);
-    match frame {
-        Frame::Whole(request) => {
+    match request::read(requests) {
+        Ok(request) => {
             let ruling = judge::judge(current, rule, request);
             let reason = reason_of(why, log, *last, ruling);
             let answer = history::act(base, log, current, last, request, ruling);
@@ -83,12 +82,12 @@ fn answer_next(
             let length = body_length(kind);
             so_far(ordinal + 1, length + 1, text, true)
         }
-        Frame::Unknown => {
+        Err(FrameError::Unknown) => {
             let reason = reasons::bare(1);
             let text = line(why, ordinal, kind, Answer::Refused(1), reason, out, at);
             so_far(ordinal + 1, 0, text, false)
         }
-        Frame::Cut => {
+        Err(FrameError::Cut) => {
             if !ended {
                 return so_far(ordinal, 0, at, true);
             }

@@ -1,4 +1,5 @@
 -- A caller can tell the answer for a bad label from every other answer.
+use Rattle.std.specs.Prelude.{Option, Some, None}
 use mathlib.Core.Path.{◌≡◌, refl}
 use mathlib.Core.Bool.{Bool, true, false, cond}
 use mathlib.Core.Logic.{◌⊎◌, inl, inr}
@@ -6,8 +7,6 @@ use Prim.Native.Nat.{ℕ, ◌^◌, ◌<◌}
 use native.Mathlib.Omega.{arith}
 use lib.Dec.{T}
 use Rattle.label.specs.declared.Label.{Label}
-use Rattle.label.specs.declared.Unpacked.{Unpacked}
-use Rattle.label.specs.declared.Unpacked.TheVariants.{Good, Bad}
 use Rattle.label.specs.Labels.{nothing, dominates, good, join, pack, unpack}
 use Rattle.label.proofs.Numbers.{NoLabel, bad_no_label, join_good, pack_unpack, unpack_pack}
 use Rattle.editor.specs.Answers.{of_good, dominance_answer, bad_join, join_answer}
@@ -19,14 +18,14 @@ bad_join_no_label = bad_no_label bad_join refl
 
 -- an answer that no two good labels get is got for a bad label alone
 module _ (bad : ℕ) (ask : Label → Label → ℕ) where
-  got_for_bad : (u v : Unpacked) → ((x y : Label) → u ≡ Good x → v ≡ Good y → ask x y ≡ bad → ⊥)
-      → of_good bad ask u v ≡ bad → (u ≡ Bad) ⊎ (v ≡ Bad)
-  got_for_bad (Good x) (Good y) apart e = absurd (apart x y refl refl e)
-  got_for_bad (Good x) Bad apart e = inr refl
-  got_for_bad Bad v apart e = inl refl
+  got_for_bad : (u v : Option Label) → ((x y : Label) → u ≡ Some x → v ≡ Some y → ask x y ≡ bad → ⊥)
+      → of_good bad ask u v ≡ bad → (u ≡ None) ⊎ (v ≡ None)
+  got_for_bad (Some x) (Some y) apart e = absurd (apart x y refl refl e)
+  got_for_bad (Some x) None apart e = inr refl
+  got_for_bad None v apart e = inl refl
 
 -- dominance is 3 for a bad label alone
-pub three_for_bad : (a b : ℕ) → dominance_answer a b ≡ 3 → (unpack a ≡ Bad) ⊎ (unpack b ≡ Bad)
+pub three_for_bad : (a b : ℕ) → dominance_answer a b ≡ 3 → (unpack a ≡ None) ⊎ (unpack b ≡ None)
 three_for_bad a b =
     got_for_bad 3 (λ x y. cond (nothing (dominates x y)) 1 0) (unpack a) (unpack b) (λ x y p q. yes_or_no (nothing (dominates x y)))
   where
@@ -34,16 +33,16 @@ three_for_bad a b =
     yes_or_no true e = omega arith
     yes_or_no false e = omega arith
 
-module _ (a b : ℕ) (small : a < 2 ^ 32) (small' : b < 2 ^ 32) (x y : Label) (p : unpack a ≡ Good x) (q : unpack b ≡ Good y) where
+module _ (a b : ℕ) (small : a < 2 ^ 32) (small' : b < 2 ^ 32) (x y : Label) (p : unpack a ≡ Some x) (q : unpack b ≡ Some y) where
   good_join : T (good (join x y))
   good_join = join_good x y (pack_unpack a small x p).is_good (pack_unpack b small' y q).is_good
 
   -- of good labels the join is answered as its own number, which is no bad label
-  pub join_of_good : unpack (join_answer a b) ≡ Good (join x y)
+  pub join_of_good : unpack (join_answer a b) ≡ Some (join x y)
   join_of_good = rw (p, q) (unpack_pack (join x y) good_join)
 
 -- the join is C3000000 for a bad label alone
-pub bad_join_for_bad : (a b : ℕ) → a < 2 ^ 32 → b < 2 ^ 32 → join_answer a b ≡ bad_join → (unpack a ≡ Bad) ⊎ (unpack b ≡ Bad)
+pub bad_join_for_bad : (a b : ℕ) → a < 2 ^ 32 → b < 2 ^ 32 → join_answer a b ≡ bad_join → (unpack a ≡ None) ⊎ (unpack b ≡ None)
 bad_join_for_bad a b small small' =
     got_for_bad bad_join (λ x y. pack (join x y)) (unpack a) (unpack b)
     (λ x y p q e. bad_join_no_label (join x y) (record { is_good = good_join a b small small' x y p q; packed = e }))

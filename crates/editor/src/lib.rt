@@ -4,7 +4,7 @@
 ghost use Rattle.std.specs.Prelude.{◌≡◌};
 ghost use Rattle.editor.specs.Answers.{dominance_answer, join_answer, body_length_answer};
 
-use label::{Label, Unpacked};
+use label::Label;
 
 const YES: u32 = 1;
 
@@ -18,10 +18,10 @@ const BAD_JOIN: u32 = 0xC300_0000;
 pub fn desk_dominates(a: u32, b: u32) -> u32
     ensures { result ≡ dominance_answer a b }
 {
-    let Unpacked::Good(over) = Label::unpack(a) else {
+    let Some(over) = Label::unpack(a) else {
         return BAD_LABEL;
     };
-    let Unpacked::Good(under) = Label::unpack(b) else {
+    let Some(under) = Label::unpack(b) else {
         return BAD_LABEL;
     };
     let failing = over.dominates(under);
@@ -31,10 +31,10 @@ pub fn desk_dominates(a: u32, b: u32) -> u32
 pub fn desk_join(a: u32, b: u32) -> u32
     ensures { result ≡ join_answer a b }
 {
-    let Unpacked::Good(one) = Label::unpack(a) else {
+    let Some(one) = Label::unpack(a) else {
         return BAD_JOIN;
     };
-    let Unpacked::Good(other) = Label::unpack(b) else {
+    let Some(other) = Label::unpack(b) else {
         return BAD_JOIN;
     };
     one.join(other).pack()

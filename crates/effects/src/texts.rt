@@ -7,7 +7,7 @@ ghost use Rattle.effects.specs.Elements.{draft_of, placed_at, unplaced, created_
 ghost use Rattle.records.specs.Lookups.{of_script, placed};
 ghost use Rattle.effects.specs.Effects.{on_draft, removed, swept_drafts, swept_scripts, swept};
 
-use records::{Cells, Draft, Found, Script};
+use records::{Cells, Draft, Script};
 
 // ---- places of a draft
 fn placed_at(draft: Draft, place: u8) -> Draft
@@ -30,7 +30,7 @@ fn unplaced(draft: Draft, room: u8) -> Draft
 pub fn add_place(records: &mut Cells, script: u8, number: u32, place: u8)
     ensures { view records.new ≡ on_draft (view records.old) script number (placed_at place) }
 {
-    let Found::At(i) = records::find_draft(records, script, number) else {
+    let Some(i) = records::find_draft(records, script, number) else {
         return;
     };
     let draft = records::draft_at(records, i);
@@ -110,7 +110,7 @@ pub(crate) fn sweep(records: &mut Cells)
 pub fn remove_place(records: &mut Cells, script: u8, number: u32, room: u8)
     ensures { view records.new ≡ removed (view records.old) script number room }
 {
-    let Found::At(i) = records::find_draft(records, script, number) else {
+    let Some(i) = records::find_draft(records, script, number) else {
         return;
     };
     let draft = unplaced(records::draft_at(records, i), room);

@@ -1,4 +1,5 @@
 -- What the functions' proofs cite: the oldest change, the number that was issued, a request that is judged, a change that is kept.
+use Rattle.std.specs.Prelude.{Some, None}
 use mathlib.Core.Path.{◌≡◌, refl, ap, ◌∙◌}
 use mathlib.Core.Bool.{Bool, true, false, cond}
 use mathlib.Core.List.{List, [], ◌∷◌, ◌++◌, foldl}
@@ -14,7 +15,6 @@ use Rattle.effects.specs.Effects.{applied}
 use Rattle.effects.specs.declared.Change.{Change}
 use Rattle.kept.specs.Log.{pushed}
 use Rattle.counter.specs.Numbers.{top, next_after, last_after}
-use Rattle.counter.specs.declared.Next.TheVariants.{Number, Spent}
 use Rattle.judge.specs.Kinds.{ruling_of}
 use Rattle.judge.specs.declared.Ruling.{Ruling}
 use Rattle.history.specs.Machine.{Desk, Outcome, keep_change, ruled, step}
@@ -24,10 +24,10 @@ pub first_one : (h : House) (l : List Change) (d : Change) → 0 < length l → 
 first_one h [] d k = absurd (omega arith)
 first_one h (c ∷ cs) d k = refl
 
-pub number_is_last : (last n : ℕ) → next_after last ≡ Number n → last_after last ≡ n
+pub number_is_last : (last n : ℕ) → next_after last ≡ Some n → last_after last ≡ n
 number_is_last last n e = by_top (eqb last top) e
   where
-    by_top : (t : Bool) → cond t Spent (Number (last + 1)) ≡ Number n → cond t last (last + 1) ≡ n
+    by_top : (t : Bool) → cond t None (Some (last + 1)) ≡ Some n → cond t last (last + 1) ≡ n
     by_top true e = differ cc
     by_top false e = cc
 

@@ -1,9 +1,7 @@
 -- The desk as a machine, over any records S, changes C and requests Q: which changes it keeps, what a take-back does, which numbers it issues.
-use Rattle.std.specs.Prelude.{cond, ℕ, ◌-◌, eqb, ltb, length, take, drop}
+use Rattle.std.specs.Prelude.{cond, ℕ, ◌-◌, eqb, ltb, length, take, drop, Option, Some, None}
 use mathlib.Core.List.{List, [], ◌∷◌, ◌++◌, foldl}
 use Rattle.counter.specs.Numbers.{next_after}
-use Rattle.counter.specs.declared.Next.{Next}
-use Rattle.counter.specs.declared.Next.TheVariants.{Number, Spent}
 use Rattle.history.specs.declared.Answer.{Answer}
 use Rattle.history.specs.declared.Answer.TheVariants.{Granted, Numbered, Refused}
 
@@ -57,9 +55,9 @@ module _ {S C Q : Type 0} (R : Rulebook S C Q) where
       (outcome (record { base = d.base; log = take (length d.log - 1) d.log; current = changed d.base (take (length d.log - 1) d.log); last = d.last }) Granted)
 
   -- 11: "the last number issued is 4,294,967,295"
-  abbrev pub issued : Desk S C → (ℕ → C) → Next → Outcome S C
-  issued d f (Number n) = outcome (keep_change d (f n) n) (Numbered n)
-  issued d f Spent = outcome d (Refused 11)
+  abbrev pub issued : Desk S C → (ℕ → C) → Option ℕ → Outcome S C
+  issued d f (Some n) = outcome (keep_change d (f n) n) (Numbered n)
+  issued d f None = outcome d (Refused 11)
 
   -- "A refusal leaves records, counter and kept changes as they were."
   abbrev pub ruled : Desk S C → Verdict C → Outcome S C

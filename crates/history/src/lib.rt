@@ -9,7 +9,6 @@ ghost use Rattle.effects.specs.Effects.{change_of};
 ghost use Rattle.history.specs.Desk.{shown, desk_rules, opens, opened_under, verdict_of, settled, answer_byte};
 ghost use Rattle.counter.specs.Numbers.{next_after};
 
-use counter::Next;
 use effects::Change;
 use judge::Ruling;
 use kept::Log;
@@ -106,8 +105,7 @@ fn make_numbered(
     ensures { (rule : Rule) → outcome (shown base.new log.new current.new last.new) result ≡ issued (desk_rules rule) (shown base.old log.old current.old last.old) (change_of request) (next_after last.old) }
 {
     let issued = counter::issue_from(*last);
-    let next = issued.next;
-    let Next::Number(number) = next else {
+    let Some(number) = issued.next else {
         return Answer::Refused(11);
     };
     *last = issued.last;

@@ -1,4 +1,5 @@
 -- What a reason says is true of the present records: for each kind, line by line.
+use Rattle.std.specs.Prelude.{Option, Some, None}
 use Prim.Native.Nat.{ℕ}
 use mathlib.Core.Path.{◌≡◌, refl, sym, ◌∙◌}
 use mathlib.Core.Bool.{Bool, true, false, not, ◌&&◌, ◌||◌}
@@ -10,8 +11,6 @@ use Rattle.label.proofs.Dominance.{level_differs, categories_differ}
 use Rattle.leads.specs.Leads.{lead_count}
 use Rattle.records.specs.House.{House, house, staff, user, script, session, draft_at}
 use Rattle.records.specs.Lookups.{find_draft, draft}
-use Rattle.records.specs.declared.Found.{Found}
-use Rattle.records.specs.declared.Found.TheVariants.{At, Nothing}
 use Rattle.records.proofs.Lookups.{found_draft, found_is, found_below, no_draft_lem}
 use Rattle.conditions.specs.Conditions.{no_users, is_user, is_room, is_script, is_session, is_draft}
 use Rattle.conditions.proofs.Labels.{level_alike}
@@ -58,9 +57,9 @@ other a b {differ} p e = not-true (eqb a b) (sym p ∙ not-false differ e)
 live : (h : House) (k v : ℕ) → is_draft h k v ≡ true → Live h v (draft h k v)
 live h k v t = go (find_draft h k v) refl
   where
-    go : (x : Found) → find_draft h k v ≡ x → Live h v (draft h k v)
-    go Nothing e = absurd (let z : ◌≡◌ {A = Bool} true false = sym t ∙ no_draft_lem h k v e in let y : ◌≡◌ {A = ℕ} 0 1 = cc in omega arith)
-    go (At i) e = record {
+    go : (x : Option ℕ) → find_draft h k v ≡ x → Live h v (draft h k v)
+    go None e = absurd (let z : ◌≡◌ {A = Bool} true false = sym t ∙ no_draft_lem h k v e in let y : ◌≡◌ {A = ℕ} 0 1 = cc in omega arith)
+    go (Some i) e = record {
       place = i;
       below = found_below h k v i e;
       stands = sym (found_draft h k v i e);

@@ -1,4 +1,5 @@
 -- Labels as 32-bit numbers: packing and unpacking undo each other on good labels, every other number is bad, and joins of good labels are good.
+use Rattle.std.specs.Prelude.{Option, Some, None}
 use mathlib.Core.Path.{◌≡◌, refl, sym, subst}
 use mathlib.Core.Bool.{Bool, true, false, cond, ◌&&◌, ◌||◌}
 use Prim.Native.Nat.{ℕ, ◌+◌, ◌*◌, ◌^◌, ◌≤◌, ◌<◌, max}
@@ -10,8 +11,6 @@ use borrow.Author.Tests.{ne_eqb, eqb-true, le-leb, le-ltb, ltb-false}
 use Rattle.label.specs.Labels.{good, join, pack, unpack, place_of, level_of, categories_of}
 use Rattle.label.specs.declared.Label.{Label}
 use Rattle.label.specs.declared.Label.TheVariants.{High, Low, At}
-use Rattle.label.specs.declared.Unpacked.{Unpacked}
-use Rattle.label.specs.declared.Unpacked.TheVariants.{Good, Bad}
 use Rattle.label.proofs.Sets.{union_below}
 
 -- what it takes for a label at a place to be good
@@ -50,7 +49,7 @@ join_good (At p l c) (At q m d) s t = by_place (eqb p q)
     by_place false = tt
 
 -- a good label, "as a 32-bit number", stands for itself
-pub unpack_pack : (a : Label) → T (good a) → unpack (pack a) ≡ Good a
+pub unpack_pack : (a : Label) → T (good a) → unpack (pack a) ≡ Some a
 unfolding unpack
 unpack_pack High t = refl
 unpack_pack Low t = refl
@@ -76,14 +75,14 @@ pub record NumberOf (a : Label) (n : ℕ) : Type 0 where
   pub packed : pack a ≡ n
 
 -- what an answer of unpacking says of the number
-abbrev Meaning : ℕ → Unpacked → Type 0
-Meaning n (Good a) = NumberOf a n
-Meaning n Bad = T true
+abbrev Meaning : ℕ → Option Label → Type 0
+Meaning n (Some a) = NumberOf a n
+Meaning n None = T true
 
 module _ (n : ℕ) (small : n < 2 ^ 32) where
   by_tests : (high low far above : Bool) → eqb n 0xFF00_0000 ≡ high → eqb n 0xFE00_0000 ≡ low
       → ltb 16 (place_of n) ≡ far → ltb 7 (level_of n) ≡ above
-      → Meaning n (cond high (Good High) (cond low (Good Low) (cond (far || above) Bad (Good (At (place_of n) (level_of n) (categories_of n))))))
+      → Meaning n (cond high (Some High) (cond low (Some Low) (cond (far || above) None (Some (At (place_of n) (level_of n) (categories_of n))))))
   by_tests true low far above h k p l = record { is_good = tt; packed = sym (eqb-true n _ h) }
   by_tests false true far above h k p l = record { is_good = tt; packed = sym (eqb-true n _ k) }
   by_tests false false true above h k p l = tt
@@ -101,7 +100,7 @@ module _ (n : ℕ) (small : n < 2 ^ 32) where
       by_tests (eqb n 0xFF00_0000) (eqb n 0xFE00_0000) (ltb 16 (place_of n)) (ltb 7 (level_of n)) refl refl refl refl
 
   -- a 32-bit number that stands for a label is the number of that label, which is good
-  pub pack_unpack : (a : Label) → unpack n ≡ Good a → NumberOf a n
+  pub pack_unpack : (a : Label) → unpack n ≡ Some a → NumberOf a n
   pack_unpack a e = subst (Meaning n) e meaning
 
 -- n is the number of no good label
@@ -109,16 +108,16 @@ abbrev pub NoLabel : ℕ → Type 0
 NoLabel n = (a : Label) → NumberOf a n → ⊥
 
 -- A bad label is the number of no good label ..
-pub bad_no_label : (n : ℕ) → unpack n ≡ Bad → NoLabel n
+pub bad_no_label : (n : ℕ) → unpack n ≡ None → NoLabel n
 bad_no_label n bad a h =
-    let read : unpack (pack a) ≡ Good a = unpack_pack a h.is_good in
+    let read : unpack (pack a) ≡ Some a = unpack_pack a h.is_good in
     let z : ◌≡◌ {A = ℕ} 0 1 = cc h.packed in
     omega arith
 
 -- .. and "any other number", one of 32 bits that is the number of no good label, "is a bad label".
-pub no_label_bad : (n : ℕ) → n < 2 ^ 32 → NoLabel n → unpack n ≡ Bad
+pub no_label_bad : (n : ℕ) → n < 2 ^ 32 → NoLabel n → unpack n ≡ None
 no_label_bad n small none = by_reading (unpack n) refl
   where
-    by_reading : (u : Unpacked) → unpack n ≡ u → unpack n ≡ Bad
-    by_reading (Good a) e = absurd (none a (pack_unpack n small a e))
-    by_reading Bad e = e
+    by_reading : (u : Option Label) → unpack n ≡ u → unpack n ≡ None
+    by_reading (Some a) e = absurd (none a (pack_unpack n small a e))
+    by_reading None e = e

@@ -1,11 +1,9 @@
 -- Labels: dominance by its parts, the join, good labels, and labels as 32-bit numbers. Each definition stands under the sentence that it says.
-use Rattle.std.specs.Prelude.{Bool, true, false, not, cond, ◌&&◌, ◌||◌, ℕ, ◌+◌, ◌*◌, ◌/◌, ◌%◌, ◌^◌, max, T, eqb, leb, ltb}
+use Rattle.std.specs.Prelude.{Bool, true, false, not, cond, ◌&&◌, ◌||◌, ℕ, ◌+◌, ◌*◌, ◌/◌, ◌%◌, ◌^◌, max, T, eqb, leb, ltb, Option, Some, None}
 use Rattle.std.specs.Int.Bits.{bit_and, bit_or}
 use Rattle.label.specs.declared.Label.{Label}
 use Rattle.label.specs.declared.Label.TheVariants.{High, Low, At}
 use Rattle.label.specs.declared.Parts.{Parts}
-use Rattle.label.specs.declared.Unpacked.{Unpacked}
-use Rattle.label.specs.declared.Unpacked.TheVariants.{Good, Bad}
 
 -- "A label is (level, categories, place), or SysHigh, or SysLow." `At p l c` has place p, level l and categories c, `High` is SysHigh and `Low` SysLow.
 
@@ -93,9 +91,9 @@ abbrev pub categories_of : ℕ → ℕ
 categories_of n = n % 2 ^ 16
 
 -- "Any other number with a place over 16 or a level over 7 is a bad label." So FF000001 and FE000001 are bad: their place bytes are FF and FE.
-unfoldable pub unpack : ℕ → Unpacked
+unfoldable pub unpack : ℕ → Option Label
 unpack n =
-    cond (eqb n 0xFF00_0000) (Good High)
-    (cond (eqb n 0xFE00_0000) (Good Low)
-    (cond (ltb 16 (place_of n) || ltb 7 (level_of n)) Bad
-    (Good (At (place_of n) (level_of n) (categories_of n)))))
+    cond (eqb n 0xFF00_0000) (Some High)
+    (cond (eqb n 0xFE00_0000) (Some Low)
+    (cond (ltb 16 (place_of n) || ltb 7 (level_of n)) None
+    (Some (At (place_of n) (level_of n) (categories_of n)))))

@@ -24,13 +24,6 @@ pub struct Parts {
     pub place: bool,
 }
 
-// The answer of unpacking: not every number is a label's.
-#[derive(Clone, Copy)]
-pub enum Unpacked {
-    Good(Label),
-    Bad,
-}
-
 const HIGH_NUMBER: u32 = 0xFF00_0000;
 
 const LOW_NUMBER: u32 = 0xFE00_0000;
@@ -151,27 +144,27 @@ impl Label {
         }
     }
 
-    // The ends come first, because their place bytes are over 16.
+    // Not every number is a label's. The ends come first, because their place bytes are over 16.
     #[tactic(auto, unfolding(crate::specs::Labels::unpack))]
-    pub fn unpack(number: u32) -> Unpacked
+    pub fn unpack(number: u32) -> Option<Label>
         ensures { result ≡ unpack number }
     {
         if number == HIGH_NUMBER {
-            return Unpacked::Good(Label::SYS_HIGH);
+            return Some(Label::SYS_HIGH);
         }
         if number == LOW_NUMBER {
-            return Unpacked::Good(Label::SYS_LOW);
+            return Some(Label::SYS_LOW);
         }
         let place = (number / 0x100_0000) as u8;
         let level = (number / 0x1_0000 % 0x100) as u8;
         let categories = (number % 0x1_0000) as u16;
         if 16 < place {
-            return Unpacked::Bad;
+            return None;
         }
         if 7 < level {
-            return Unpacked::Bad;
+            return None;
         }
-        Unpacked::Good(Label::At {
+        Some(Label::At {
             place,
             level,
             categories,

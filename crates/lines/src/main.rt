@@ -7,7 +7,6 @@ ghost use Rattle.std.specs.Prelude.{◌≡◌, ◌<◌, ◌≤◌, length, IfOk}
 
 use judge::Ruling;
 use records::{Cells, Draft, Rule, Script, Session, User};
-use request::Frame;
 use std::io;
 use std::io::{Read, Write};
 
@@ -227,13 +226,11 @@ fn ruled(letter: u8, frame: &[u8], n: usize) -> u8 {
     if frame.len() < n {
         return 0;
     }
-    let read = request::read(&frame[..n]);
     let records = house(small(letter));
     let rule = rule_by(letter);
-    match read {
-        Frame::Whole(request) => answer(judge::judge(&records, rule, request)),
-        Frame::Unknown => 0,
-        Frame::Cut => 0,
+    match request::read(&frame[..n]) {
+        Ok(request) => answer(judge::judge(&records, rule, request)),
+        Err(_) => 0,
     }
 }
 

@@ -1,4 +1,5 @@
 -- The desk and the book agree: one request keeps them so, and gets the same answer from both.
+use Rattle.std.specs.Prelude.{Option, Some, None}
 use mathlib.Core.Path.{◌≡◌, refl, sym, ap, ◌∙◌, subst}
 use mathlib.Core.Bool.{Bool, true, false, cond}
 use mathlib.Core.List.{List, [], ◌∷◌, ◌++◌, append_assoc, foldl-append}
@@ -8,8 +9,6 @@ use lib.Dec.{eqb, ltb}
 use lib.ListN.{length, take, drop, length-append, length-take, length-drop, take-append-drop}
 use borrow.Author.Tests.{ltb-true, ltb-false, eqb-false}
 use Rattle.counter.specs.Numbers.{next_after}
-use Rattle.counter.specs.declared.Next.{Next}
-use Rattle.counter.specs.declared.Next.TheVariants.{Number, Spent}
 use Rattle.history.specs.declared.Answer.TheVariants.{Granted, Refused}
 use Rattle.history.specs.Machine.{Verdict, refuse, pass, make, issue, undo, Rulebook, Desk, Outcome, outcome, opened, changed, keep_change, take_back, issued, ruled, step}
 use Rattle.promises.specs.Book.{Book, Entry, entry, blank, records_of, enter, struck, strike, enter_numbered, noted, note}
@@ -124,9 +123,9 @@ module _ {S C Q : Type 0} (R : Rulebook S C Q) (start : S) where
     ruled_same (issue f) =
         subst (λ (n : ℕ). Same (issued R d f (next_after d.last)) (enter_numbered R b f (next_after n))) a.last_is (by_next (next_after d.last))
       where
-        by_next : (x : Next) → Same (issued R d f x) (enter_numbered R b f x)
-        by_next (Number n) = record { agrees = keep_agrees (f n) n; answers = refl }
-        by_next Spent = record { agrees = a; answers = refl }
+        by_next : (x : Option ℕ) → Same (issued R d f x) (enter_numbered R b f x)
+        by_next (Some n) = record { agrees = keep_agrees (f n) n; answers = refl }
+        by_next None = record { agrees = a; answers = refl }
     ruled_same undo = back_same
 
     -- the desk judges by its records, the book by the records that it says: they are the same

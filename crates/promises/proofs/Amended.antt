@@ -1,4 +1,5 @@
 -- "Only refusals 9 and 16 at Import are amended": in every state, and over any run.
+use Rattle.std.specs.Prelude.{Option, Some, None}
 use Prim.Native.Nat.{ℕ}
 use mathlib.Core.Path.{◌≡◌, refl, ap, ◌∙◌}
 use mathlib.Core.List.{List, [], ◌∷◌}
@@ -8,8 +9,6 @@ use Rattle.records.specs.House.{House}
 use Rattle.records.specs.declared.Rule.{Rule}
 use Rattle.effects.specs.declared.Change.{Change}
 use Rattle.counter.specs.Numbers.{next_after}
-use Rattle.counter.specs.declared.Next.{Next}
-use Rattle.counter.specs.declared.Next.TheVariants.{Number, Spent}
 use Rattle.reasons.specs.declared.Reason.{Reason}
 use Rattle.judge.specs.declared.Ruling.{Ruling}
 use Rattle.judge.specs.declared.Ruling.TheVariants.{Refused}
@@ -31,9 +30,9 @@ module _ (r s : Rule) (d : Desk House Change) where
   done_alike (make c) = refl
   done_alike (issue f) = go (next_after d.last)
     where
-      go : (n : Next) → issued (desk_rules r) d f n ≡ issued (desk_rules s) d f n
-      go (Number n) = refl
-      go Spent = refl
+      go : (n : Option ℕ) → issued (desk_rules r) d f n ≡ issued (desk_rules s) d f n
+      go (Some n) = refl
+      go None = refl
   done_alike undo = refl
 
   by_ruling : (q : Request) → ruling_of r d.current q ≡ ruling_of s d.current q → step (desk_rules r) d q ≡ step (desk_rules s) d q

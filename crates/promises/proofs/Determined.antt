@@ -1,5 +1,6 @@
 -- Any two results that a contract allows coincide. A contract that is an equation with a definition on the arguments leaves one result; for each public
 -- contract of another form a theorem takes what its `ensures` says of two results, and what `view`, `past` or `shown` shows of the parts lent.
+use Rattle.std.specs.Prelude.{Option}
 use Prim.Native.Nat.{ℕ, ◌≤◌}
 use mathlib.Core.Path.{◌≡◌, sym, ap, ◌∙◌}
 use mathlib.Core.List.{List}
@@ -16,7 +17,6 @@ use Rattle.opening.specs.declared.Opening.{Opening}
 use Rattle.counter.specs.Numbers.{next_after, last_after}
 use Rattle.counter.specs.declared.Counter.{Counter}
 use Rattle.counter.specs.declared.Issued.{Issued}
-use Rattle.counter.specs.declared.Next.{Next}
 use Rattle.kept.specs.Log.{past}
 use Rattle.judge.specs.declared.Ruling.{Ruling}
 use Rattle.history.specs.Machine.{Outcome, outcome, ruled, step}
@@ -48,7 +48,7 @@ pub one_kept_count : (log : List ℕ) (r s : ℕ) → (r ≡ length (past log)) 
 one_kept_count log r s p q = determined p.0 q.0
 
 -- two results of counter::issue: one_issue
-pub one_issue : (entry c d : Counter) (r s : Next)
+pub one_issue : (entry c d : Counter) (r s : Option ℕ)
     → (r ≡ next_after entry.last) × (c.last ≡ last_after entry.last)
     → (s ≡ next_after entry.last) × (d.last ≡ last_after entry.last) → (r ≡ s) × (c ≡ d)
 one_issue entry c d r s p q = (determined p.0 q.0, (λ i. record { last = determined p.1 q.1 i }))

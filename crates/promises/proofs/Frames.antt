@@ -1,4 +1,5 @@
 -- A request that is read off bytes fits its bytes.
+use Rattle.std.specs.Prelude.{Ok, Err}
 use Prim.Native.Nat.{ℕ, ◌+◌, ◌<◌}
 use mathlib.Core.Path.{◌≡◌, refl, sym, subst}
 use mathlib.Core.Bool.{Bool, true, false, cond, ◌&&◌}
@@ -12,12 +13,12 @@ use Rattle.request.specs.Bytes.{◌#◌, pair_at, quad_at}
 use Rattle.request.specs.Kinds.{Body, one, two, four, make, Row, Sought, at, none, rows, find}
 use Rattle.request.specs.Reading.{fields_from, frame_at, frame_of}
 use Rattle.request.specs.Writing.{Field, Spelling}
-use Rattle.request.specs.declared.Frame.TheVariants.{Whole, Cut}
 use Rattle.request.specs.declared.Request.{Request}
 use Rattle.request.proofs.Rows.{found}
 use Rattle.request.proofs.Spelling.{Spells, Right, all_right}
 use Rattle.request.proofs.Absurd.{differ}
 use Rattle.promises.specs.Fits.{field_fits, fits}
+use Rattle.request.specs.declared.FrameError.TheVariants.{Cut}
 
 fit_more : (fs : List Field) (f : Field) → all field_fits fs ≡ true → field_fits f ≡ true → all field_fits (fs ++ (f ∷ [])) ≡ true
 fit_more [] f a e = rw e
@@ -42,20 +43,20 @@ module _ (b : List ℕ) (small : (i : ℕ) → b # i < 256) where
       (fit_more fs (Field.four x) a (lt-ltb x _ (omega (arith, small i, small (i + 1), small (i + 2), small (i + 3)))))
   fit_from kind end (make q) fs i s a = subst (λ (t : Spelling). all field_fits t.fields ≡ true) (sym s.0) a
 
-  pub read_fits : (q : Request) → frame_of b ≡ Whole q → fits q ≡ true
+  pub read_fits : (q : Request) → frame_of b ≡ Ok q → fits q ≡ true
   unfolding frame_of
   read_fits q = first (eqb (length b) 0)
     where
-      whole : (r : Row) → Right r → (t : Bool) → cond t Cut (Whole (fields_from b 1 r.body)) ≡ Whole q → fits q ≡ true
+      whole : (r : Row) → Right r → (t : Bool) → cond t (Err Cut) (Ok (fields_from b 1 r.body)) ≡ Ok q → fits q ≡ true
       whole r s true e = differ cc
       whole r s false e =
           let same : fields_from b 1 r.body ≡ q = cc in
           subst (λ (p : Request). fits p ≡ true) same (fit_from r.kind (1 + r.length) r.body [] 1 s refl)
 
-      row : (s : Sought) → find rows (b # 0) ≡ s → frame_at s b ≡ Whole q → fits q ≡ true
+      row : (s : Sought) → find rows (b # 0) ≡ s → frame_at s b ≡ Ok q → fits q ≡ true
       row none f e = differ cc
       row (at r) f e = whole r (found Right (b # 0) r rows all_right f).holds (leb (length b) r.length) e
 
-      first : (t : Bool) → cond t Cut (frame_at (find rows (b # 0)) b) ≡ Whole q → fits q ≡ true
+      first : (t : Bool) → cond t (Err Cut) (frame_at (find rows (b # 0)) b) ≡ Ok q → fits q ≡ true
       first true e = differ cc
       first false e = row (find rows (b # 0)) refl e

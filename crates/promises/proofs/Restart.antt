@@ -1,4 +1,5 @@
 -- A desk saved and opened again goes on: with the same records, with larger numbers, and where nothing is taken back with the same answers.
+use Rattle.std.specs.Prelude.{Option, Some, None}
 use Prim.Native.Nat.{ℕ, ◌-◌}
 use mathlib.Core.Path.{◌≡◌, refl, sym, ap, ◌∙◌, subst}
 use mathlib.Core.Bool.{Bool, true, false, cond}
@@ -15,8 +16,6 @@ use Rattle.judge.specs.Kinds.{grant_of, ruling_of}
 use Rattle.judge.specs.declared.Ruling.{Ruling}
 use Rattle.judge.specs.declared.Ruling.TheVariants.{Pass, Keep, KeepNumbered}
 use Rattle.counter.specs.Numbers.{next_after}
-use Rattle.counter.specs.declared.Next.{Next}
-use Rattle.counter.specs.declared.Next.TheVariants.{Number, Spent}
 use Rattle.history.specs.declared.Answer.{Answer}
 use Rattle.history.specs.declared.Answer.TheVariants.{Granted, Refused}
 use Rattle.history.specs.Machine.{Verdict, refuse, pass, make, issue, undo, Rulebook, Desk, outcome, opened, changed, keep_change, take_back, issued, ruled, step, run, answers}
@@ -48,9 +47,9 @@ module _ {S C Q : Type 0} (R : Rulebook S C Q) where
     after_ruled (make c) h = subst (λ (n : ℕ). Rising n (numbers later)) (last_after_lem R d c d.last) h
     after_ruled (issue f) h = by_next (next_after d.last) refl h
       where
-        by_next : (x : Next) → next_after d.last ≡ x → Rising (issued R d f x).desk.last (numbers later) → Rising d.last (numbers ((issued R d f x).answer ∷ later))
-        by_next (Number n) e h = (next_larger d.last n e, subst (λ (m : ℕ). Rising m (numbers later)) (last_after_lem R d (f n) n) h)
-        by_next Spent e h = h
+        by_next : (x : Option ℕ) → next_after d.last ≡ x → Rising (issued R d f x).desk.last (numbers later) → Rising d.last (numbers ((issued R d f x).answer ∷ later))
+        by_next (Some n) e h = (next_larger d.last n e, subst (λ (m : ℕ). Rising m (numbers later)) (last_after_lem R d (f n) n) h)
+        by_next None e h = h
     after_ruled undo h = by_count (eqb (length d.log) 0) h
       where
         left : Desk S C
@@ -87,12 +86,12 @@ module _ {S C Q : Type 0} (R : Rulebook S C Q) where
     ruled_alike pass no_undo = record { same = refl; alike = a }
     ruled_alike (make c) no_undo = record { same = refl; alike = keep_alike c d.last e.last a.last_number_lem }
     ruled_alike (issue f) no_undo =
-        subst (λ (x : Next). BothSay (issued R d f x).desk (ruled R e (issue f)).desk (issued R d f x).answer (ruled R e (issue f)).answer)
+        subst (λ (x : Option ℕ). BothSay (issued R d f x).desk (ruled R e (issue f)).desk (issued R d f x).answer (ruled R e (issue f)).answer)
         (sym (ap next_after a.last_number_lem)) (by_next (next_after e.last))
       where
-        by_next : (x : Next) → BothSay (issued R d f x).desk (issued R e f x).desk (issued R d f x).answer (issued R e f x).answer
-        by_next (Number n) = record { same = refl; alike = keep_alike (f n) n n refl }
-        by_next Spent = record { same = refl; alike = a }
+        by_next : (x : Option ℕ) → BothSay (issued R d f x).desk (issued R e f x).desk (issued R d f x).answer (issued R e f x).answer
+        by_next (Some n) = record { same = refl; alike = keep_alike (f n) n n refl }
+        by_next None = record { same = refl; alike = a }
     ruled_alike undo no_undo = absurd (no_undo refl)
 
     step_alike : (q : Q) → ((s : S) → R.judge s q ≡ undo → ⊥) → BothSay (step R d q).desk (step R e q).desk (step R d q).answer (step R e q).answer

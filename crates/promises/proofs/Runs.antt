@@ -1,4 +1,5 @@
 -- Demand 3 over any run of requests from any opening: the records, the answers, the take-backs and the numbers.
+use Rattle.std.specs.Prelude.{Option, Some, None}
 use mathlib.Core.Path.{◌≡◌, refl, sym, subst}
 use mathlib.Core.Bool.{Bool, true, false, cond}
 use mathlib.Core.List.{List, [], ◌∷◌}
@@ -7,8 +8,6 @@ use native.Mathlib.Omega.{arith}
 use lib.Dec.{eqb}
 use Rattle.request.proofs.Absurd.{differ}
 use Rattle.counter.specs.Numbers.{top, next_after}
-use Rattle.counter.specs.declared.Next.{Next}
-use Rattle.counter.specs.declared.Next.TheVariants.{Number, Spent}
 use Rattle.history.specs.declared.Answer.{Answer}
 use Rattle.history.specs.declared.Answer.TheVariants.{Granted, Refused}
 use Rattle.history.specs.Machine.{Verdict, refuse, pass, make, issue, undo, Rulebook, Desk, opened, changed, step, run, answers}
@@ -16,10 +15,10 @@ use Rattle.promises.specs.Book.{Book, entry, blank, records_of, enter, struck, e
 use Rattle.promises.proofs.Agrees.{Agrees, opened_agrees, step_same}
 
 -- ---- numbers: what follows the last number is larger
-pub next_larger : (last n : ℕ) → next_after last ≡ Number n → last < n
+pub next_larger : (last n : ℕ) → next_after last ≡ Some n → last < n
 next_larger last n e = by_top (eqb last top) e
   where
-    by_top : (t : Bool) → cond t Spent (Number (last + 1)) ≡ Number n → last < n
+    by_top : (t : Bool) → cond t None (Some (last + 1)) ≡ Some n → last < n
     by_top true e = differ cc
     by_top false e = let m : last + 1 ≡ n = cc in omega arith
 
@@ -52,9 +51,9 @@ module _ {S C Q : Type 0} (R : Rulebook S C Q) (start : S) where
   rising_step b (make c) more later = later (enter R b c b.last)
   rising_step b (issue f) more later = by_next (next_after b.last) refl
     where
-      by_next : (x : Next) → next_after b.last ≡ x → Rising b.last (numbers ((enter_numbered R b f x).answer ∷ more (enter_numbered R b f x).book))
-      by_next (Number n) e = (next_larger b.last n e, later (enter R b (f n) n))
-      by_next Spent e = later b
+      by_next : (x : Option ℕ) → next_after b.last ≡ x → Rising b.last (numbers ((enter_numbered R b f x).answer ∷ more (enter_numbered R b f x).book))
+      by_next (Some n) e = (next_larger b.last n e, later (enter R b (f n) n))
+      by_next None e = later b
   rising_step b undo more later = by_count (eqb b.count 0)
     where
       by_count : (t : Bool)

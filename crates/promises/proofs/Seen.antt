@@ -1,4 +1,5 @@
 -- A number once seen never names another text: over any run from any records and last number that meet the record rules.
+use Rattle.std.specs.Prelude.{Option, Some, None}
 use Prim.Native.Nat.{ℕ, zero, suc, ◌+◌, ◌<◌}
 use mathlib.Core.Path.{◌≡◌, refl, sym, ap, subst, ◌∙◌}
 use mathlib.Core.Bool.{Bool, true, false, cond}
@@ -12,8 +13,6 @@ use Rattle.records.specs.House.{House, house, no_draft, session, draft_at, put_d
 use Rattle.records.specs.Lookups.{find_draft, at_found, placed}
 use Rattle.records.specs.Places.{only}
 use Rattle.records.specs.declared.Draft.{Draft}
-use Rattle.records.specs.declared.Found.{Found}
-use Rattle.records.specs.declared.Found.TheVariants.{At, Nothing}
 use Rattle.records.specs.declared.Rule.{Rule}
 use Rattle.effects.specs.Elements.{draft_of, placed_at, unplaced}
 use Rattle.effects.specs.Effects.{change_of, swept, less_one, effect, applied}
@@ -74,13 +73,13 @@ module _ (P : ℕ → ℕ → Type 0) where
   one_more : (h : House) (n s places : ℕ) → Drafts h → P n s → Drafts (add_draft h (draft_of n s places))
   one_more h n s places e p = each_take Of 256 (h.drafts ++ (draft_of n s places ∷ [])) (each_more Of h.drafts (draft_of n s places) e p)
 
-  anew : (h : House) (f : Draft → Draft) → ((d : Draft) → Of d → Of (f d)) → (x : Found) → Drafts h → Drafts (at_found x (λ i. put_draft h i (f (draft_at h i))) h)
-  anew h f k (At i) e = each_anew Of f k no_draft h.drafts i e
-  anew h f k Nothing e = e
+  anew : (h : House) (f : Draft → Draft) → ((d : Draft) → Of d → Of (f d)) → (x : Option ℕ) → Drafts h → Drafts (at_found x (λ i. put_draft h i (f (draft_at h i))) h)
+  anew h f k (Some i) e = each_anew Of f k no_draft h.drafts i e
+  anew h f k None e = e
 
-  less : (h : House) (room : ℕ) (x : Found) → Drafts h → Drafts (at_found x (λ i. less_one h i (unplaced room (draft_at h i))) h)
-  less h room Nothing e = e
-  less h room (At i) e = go (placed (unplaced room (draft_at h i))) (each_anew Of (unplaced room) (λ d p. p) no_draft h.drafts i e)
+  less : (h : House) (room : ℕ) (x : Option ℕ) → Drafts h → Drafts (at_found x (λ i. less_one h i (unplaced room (draft_at h i))) h)
+  less h room None e = e
+  less h room (Some i) e = go (placed (unplaced room (draft_at h i))) (each_anew Of (unplaced room) (λ d p. p) no_draft h.drafts i e)
     where
       new : House
       new = put_draft h i (unplaced room (draft_at h i))

@@ -1,4 +1,5 @@
 -- Places less: Remove and Disband keep the record rules, for "a draft that loses its last place is deleted, and a script that loses its last draft is deleted".
+use Rattle.std.specs.Prelude.{Option, Some, None}
 use Prim.Native.Nat.{ℕ, ◌≤◌}
 use mathlib.Core.Path.{◌≡◌, refl, sym, ap, ◌∙◌, subst}
 use mathlib.Core.Bool.{Bool, true, false, cond, not, ◌&&◌}
@@ -14,8 +15,6 @@ use Rattle.records.specs.declared.User.{User}
 use Rattle.records.specs.declared.Script.{Script}
 use Rattle.records.specs.declared.Session.{Session}
 use Rattle.records.specs.declared.Draft.{Draft}
-use Rattle.records.specs.declared.Found.{Found}
-use Rattle.records.specs.declared.Found.TheVariants.{At, Nothing}
 use Rattle.records.proofs.Places.{without_zero, without_only}
 use Rattle.sessions.specs.Sessions.{ends}
 use Rattle.sessions.specs.declared.Ending.TheVariants.{OfRoom}
@@ -125,7 +124,7 @@ module _ (rooms rooms' room : ℕ) (number : RoomNumber room) (move : (p : ℕ) 
 pub remove : (h : House) (last : ℕ) → Rules h last → (s v room : ℕ) → RoomNumber room → Rules (removed h s v room) last
 remove h last R s v room number = go (find_draft h s v) refl
   where
-    less : (i : ℕ) → find_draft h s v ≡ At i → (b : Bool) → placed (unplaced room (draft_at h i)) ≡ b
+    less : (i : ℕ) → find_draft h s v ≡ Some i → (b : Bool) → placed (unplaced room (draft_at h i)) ≡ b
         → Rules (cond b (put_draft h i (unplaced room (draft_at h i))) (swept (put_draft h i (unplaced room (draft_at h i))))) last
     less i e true k =
         let d = draft_at h i in
@@ -146,9 +145,9 @@ remove h last R s v room number = go (find_draft h s v) refl
       counter = R.counter;
     }
 
-    go : (x : Found) → find_draft h s v ≡ x → Rules (at_found x (λ i. less_one h i (unplaced room (draft_at h i))) h) last
-    go (At i) e = less i e (placed (unplaced room (draft_at h i))) refl
-    go Nothing e = R
+    go : (x : Option ℕ) → find_draft h s v ≡ x → Rules (at_found x (λ i. less_one h i (unplaced room (draft_at h i))) h) last
+    go (Some i) e = less i e (placed (unplaced room (draft_at h i))) refl
+    go None e = R
 
 -- ---- 0B Disband
 module _ (room : ℕ) (number : RoomNumber room) where

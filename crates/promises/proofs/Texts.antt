@@ -1,4 +1,5 @@
 -- Places and drafts more: Add, Merge, Import, Update and Create keep the record rules.
+use Rattle.std.specs.Prelude.{Option, Some, None}
 use Prim.Native.Nat.{ℕ, ◌+◌, ◌≤◌, ◌<◌}
 use mathlib.Core.Path.{◌≡◌, refl, sym, ap, ◌∙◌, subst}
 use mathlib.Core.Bool.{true, false}
@@ -16,8 +17,6 @@ use Rattle.records.specs.House.{House, no_script, no_draft, house, script, sessi
 use Rattle.records.specs.Lookups.{draft_is, find_draft, at_found, draft, of_script}
 use Rattle.records.specs.declared.Script.{Script}
 use Rattle.records.specs.declared.Draft.{Draft}
-use Rattle.records.specs.declared.Found.{Found}
-use Rattle.records.specs.declared.Found.TheVariants.{At, Nothing}
 use Rattle.records.proofs.Lookups.{found_draft, found_is, found_below, no_draft_lem}
 use Rattle.effects.specs.Elements.{created_by, draft_of, placed_at}
 use Rattle.effects.specs.Effects.{on_draft}
@@ -41,7 +40,7 @@ module _ (h : House) (last : ℕ) (R : Rules h last) where
     pub of_script : (draft_at h i).script ≡ s
     pub fine : DraftFine h.rooms (script h (draft_at h i).script) (draft_at h i)
 
-  pub draft_at_lem : (s v i : ℕ) → find_draft h s v ≡ At i → Draft-at s v i
+  pub draft_at_lem : (s v i : ℕ) → find_draft h s v ≡ Some i → Draft-at s v i
   draft_at_lem s v i e =
       let d = draft_at h i in
       let b = found_below h s v i e in
@@ -81,16 +80,16 @@ module _ (h : House) (last : ℕ) (R : Rules h last) where
   abbrev Ready : ℕ → ℕ → Type 0
   Ready p i = ((script h (draft_at h i).script).origin ≡ house) × (has (with (draft_at h i).places p) house ≡ true)
 
-  place_more : (s v p : ℕ) → Place h.rooms p → ((i : ℕ) → find_draft h s v ≡ At i → Draft-at s v i → Ready p i)
+  place_more : (s v p : ℕ) → Place h.rooms p → ((i : ℕ) → find_draft h s v ≡ Some i → Draft-at s v i → Ready p i)
       → Rules (on_draft h s v (placed_at p)) last
   place_more s v p there ok = go (find_draft h s v) refl
     where
-      go : (x : Found) → find_draft h s v ≡ x → Rules (at_found x (λ i. put_draft h i (placed_at p (draft_at h i))) h) last
-      go (At i) e =
+      go : (x : Option ℕ) → find_draft h s v ≡ x → Rules (at_found x (λ i. put_draft h i (placed_at p (draft_at h i))) h) last
+      go (Some i) e =
           let d = draft_at_lem s v i e in
           let k = ok i e d in
           put_draft_lem i (placed_at p (draft_at h i)) refl refl (place_fine p (script h (draft_at h i).script) (draft_at h i) there k.0 k.1 d.fine)
-      go Nothing e = R
+      go None e = R
 
   -- ---- 07 Add: a draft with the house among its places is a house script's
   pub add : (s v room : ℕ) → has h.rooms room ≡ true → has (draft h s v).places house ≡ true → Rules (on_draft h s v (placed_at room)) last
@@ -103,7 +102,7 @@ module _ (h : House) (last : ℕ) (R : Rules h last) where
           let o = (script h (draft_at h i).script).origin in
           sym (only_one o house (small_origin (draft_at h i).script f.script_there) (rw (f.room_script n) at z))
 
-      ok : (i : ℕ) → find_draft h s v ≡ At i → Draft-at s v i → Ready room i
+      ok : (i : ℕ) → find_draft h s v ≡ Some i → Draft-at s v i → Ready room i
       ok i e d =
           let z : has (draft_at h i).places house ≡ true = rw (found_draft h s v i e) at k in (
             of_house i z d.fine (ℕ_discrete (script h (draft_at h i).script).origin house),
@@ -171,9 +170,9 @@ module _ (h : House) (last : ℕ) (R : Rules h last) where
         place : ℕ
         place = (session h x).place
 
-        go : (y : Found) → find_draft h s v ≡ y → Rules (add_draft h (draft_of (last + 1) s (only place))) (last + 1)
-        go Nothing e = clash found (no_draft_lem h s v e)
-        go (At i) e =
+        go : (y : Option ℕ) → find_draft h s v ≡ y → Rules (add_draft h (draft_of (last + 1) s (only place))) (last + 1)
+        go None e = clash found (no_draft_lem h s v e)
+        go (Some i) e =
             let d = draft_at_lem s v i e in
             let f = subst (λ (n : ℕ). DraftFine h.rooms (script h n) (draft_at h i)) d.of_script d.fine in
             let among-them : has (draft_at h i).places place ≡ true = rw (found_draft h s v i e) at in-places in

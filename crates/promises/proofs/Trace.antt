@@ -1,4 +1,5 @@
 -- Demand 3 once more, over requests and answers alone, and what a take-back does.
+use Rattle.std.specs.Prelude.{Option, Some, None}
 use mathlib.Core.Path.{◌≡◌, refl, sym, ap, ◌∙◌, subst}
 use mathlib.Core.Bool.{Bool, true, false, cond}
 use mathlib.Core.List.{List, [], ◌∷◌}
@@ -7,8 +8,6 @@ use lib.Dec.{eqb}
 use lib.ListN.{length}
 use borrow.Author.Tests.{eq-eqb, ne_eqb}
 use Rattle.counter.specs.Numbers.{next_after}
-use Rattle.counter.specs.declared.Next.{Next}
-use Rattle.counter.specs.declared.Next.TheVariants.{Number, Spent}
 use Rattle.history.specs.declared.Answer.{Answer}
 use Rattle.history.specs.declared.Answer.TheVariants.{Granted, Refused}
 use Rattle.history.specs.Machine.{Verdict, refuse, pass, make, issue, undo, Rulebook, Desk, outcome, opened, changed, take_back, ruled, step, run, answers}
@@ -45,9 +44,9 @@ module _ {S C Q : Type 0} (R : Rulebook S C Q) (f : Q → Answer → Event C) (s
     one_shown (make c) e = rw (shows.made (records_of R start b) q c e) (refl, refl)
     one_shown (issue g) e = by_next (next_after b.last)
       where
-        by_next : (x : Next) → Shown (enter_numbered R b g x)
-        by_next (Number n) = rw (shows.issued (records_of R start b) q g n e) (refl, refl)
-        by_next Spent = rw (shows.refused q 11) (refl, refl)
+        by_next : (x : Option ℕ) → Shown (enter_numbered R b g x)
+        by_next (Some n) = rw (shows.issued (records_of R start b) q g n e) (refl, refl)
+        by_next None = rw (shows.refused q 11) (refl, refl)
     one_shown undo e = by_count (eqb b.count 0)
       where
         by_count : (t : Bool) → Shown (cond t (entry b (Refused 12)) (entry (struck R b) Granted))

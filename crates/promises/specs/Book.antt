@@ -1,10 +1,8 @@
 -- What the desk has to do, in the user's words: a book of every granted change since the opening that was not taken back, the kept count by 01's rule, and
 -- the last number.
-use Rattle.std.specs.Prelude.{cond, ◌≡◌, ℕ, ◌+◌, ◌-◌, ◌<◌, min, eqb, length, take}
+use Rattle.std.specs.Prelude.{cond, ◌≡◌, ℕ, ◌+◌, ◌-◌, ◌<◌, min, eqb, length, take, Option, Some, None}
 use mathlib.Core.List.{List, [], ◌∷◌, ◌++◌, foldl}
 use Rattle.counter.specs.Numbers.{next_after}
-use Rattle.counter.specs.declared.Next.{Next}
-use Rattle.counter.specs.declared.Next.TheVariants.{Number, Spent}
 use Rattle.history.specs.declared.Answer.{Answer}
 use Rattle.history.specs.declared.Answer.TheVariants.{Granted, Numbered, Refused}
 use Rattle.history.specs.Machine.{Verdict, refuse, pass, make, issue, undo, Rulebook}
@@ -36,9 +34,9 @@ module _ {S C Q : Type 0} (R : Rulebook S C Q) where
   abbrev pub strike : Book C → Entry C
   strike b = cond (eqb b.count 0) (entry b (Refused 12)) (entry (struck b) Granted)
 
-  abbrev pub enter_numbered : Book C → (ℕ → C) → Next → Entry C
-  enter_numbered b f (Number n) = entry (enter b (f n) n) (Numbered n)
-  enter_numbered b f Spent = entry b (Refused 11)
+  abbrev pub enter_numbered : Book C → (ℕ → C) → Option ℕ → Entry C
+  enter_numbered b f (Some n) = entry (enter b (f n) n) (Numbered n)
+  enter_numbered b f None = entry b (Refused 11)
 
   abbrev pub noted : Book C → Verdict C → Entry C
   noted b (refuse n) = entry b (Refused n)

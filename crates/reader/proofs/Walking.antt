@@ -1,4 +1,5 @@
 -- The walk frame by frame: what the frame at a byte does, and that kinds and lengths alone decide where the walk stops.
+use Rattle.std.specs.Prelude.{Some, None}
 use Prim.Native.Nat.{ℕ, zero, suc, ◌+◌, ◌-◌, ◌≤◌, ◌<◌}
 use mathlib.Core.Path.{◌≡◌, refl, sym, ap, ◌∙◌}
 use mathlib.Core.Bool.{Bool, true, false, cond}
@@ -12,7 +13,6 @@ use borrow.Author.Tests.{lt-ltb, le-ltb}
 use Rattle.request.specs.Bytes.{◌#◌}
 use Rattle.image.specs.Forms.{sizes}
 use Rattle.reader.specs.Reading.{Saved, rows, Sought, at, none, find, length_at, taken_in, Taken, stopped, frame, walked, by_length, stop_of}
-use Rattle.reader.specs.declared.Length.TheVariants.{Known, Unknown}
 use Rattle.reader.specs.declared.Walk.{Walk}
 
 -- ---- the bytes of a body are passed over
@@ -26,17 +26,17 @@ next b i h = rw (add-one i) (drop-cons b i 0 h)
 
 -- ---- a frame by its kind's row
 module _ (s : Saved) (b : List ℕ) (on : ℕ → Saved → Taken) where
-  by_unknown : (q : Sought) → length_at q ≡ Unknown → frame q b s on ≡ stopped Walk.Unknown s
+  by_unknown : (q : Sought) → length_at q ≡ None → frame q b s on ≡ stopped Walk.Unknown s
   by_unknown none e = refl
   by_unknown (at r) e = absurd (let z : ◌≡◌ {A = ℕ} 0 1 = cc in omega arith)
 
-  by_cut : (q : Sought) (n : ℕ) → length_at q ≡ Known n → length b < n → frame q b s on ≡ stopped Walk.Cut s
+  by_cut : (q : Sought) (n : ℕ) → length_at q ≡ Some n → length b < n → frame q b s on ≡ stopped Walk.Cut s
   by_cut none n e h = absurd (let z : ◌≡◌ {A = ℕ} 0 1 = cc in omega arith)
   by_cut (at r) n e h =
       let z : sizes r.widths ≡ n = cc in
       ap (λ (t : Bool). cond t (stopped Walk.Cut s) (on (sizes r.widths) (taken_in (at r) b s))) (lt-ltb (length b) (sizes r.widths) (omega arith))
 
-  by_whole : (q : Sought) (n : ℕ) → length_at q ≡ Known n → n ≤ length b → frame q b s on ≡ on n (taken_in q b s)
+  by_whole : (q : Sought) (n : ℕ) → length_at q ≡ Some n → n ≤ length b → frame q b s on ≡ on n (taken_in q b s)
   by_whole none n e h = absurd (let z : ◌≡◌ {A = ℕ} 0 1 = cc in omega arith)
   by_whole (at r) n e h =
       let z : sizes r.widths ≡ n = cc in
@@ -49,13 +49,13 @@ module _ (s : Saved) (b : List ℕ) (i : ℕ) (h : i < length b) where
   unfolding walked
   first = ap (walked 0 s) (next b i h)
 
-  pub unknown_here : Unknown ≡ length_at (find rows (b # i)) → walked 0 s (drop i b) ≡ stopped Walk.Unknown s
+  pub unknown_here : None ≡ length_at (find rows (b # i)) → walked 0 s (drop i b) ≡ stopped Walk.Unknown s
   unknown_here e = first ∙ by_unknown s (drop (i + 1) b) _ (find rows (b # i)) (sym e)
 
-  pub cut_here : (n : ℕ) → Known n ≡ length_at (find rows (b # i)) → length b - (i + 1) < n → walked 0 s (drop i b) ≡ stopped Walk.Cut s
+  pub cut_here : (n : ℕ) → Some n ≡ length_at (find rows (b # i)) → length b - (i + 1) < n → walked 0 s (drop i b) ≡ stopped Walk.Cut s
   cut_here n e l = first ∙ by_cut s (drop (i + 1) b) _ (find rows (b # i)) n (sym e) (omega (arith, length-drop (i + 1) b))
 
-  pub whole_here : (n : ℕ) → Known n ≡ length_at (find rows (b # i)) → n ≤ length b - (i + 1)
+  pub whole_here : (n : ℕ) → Some n ≡ length_at (find rows (b # i)) → n ≤ length b - (i + 1)
       → walked 0 s (drop i b) ≡ walked 0 (taken_in (find rows (b # i)) (drop (i + 1) b) s) (drop (i + 1 + n) b)
   whole_here n e l =
       let rest = drop (i + 1) b in

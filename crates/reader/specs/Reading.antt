@@ -1,6 +1,6 @@
 -- What the reader takes in. 02, L2: "The reader walks the frames first". Order, doubles, bounds and rules are not asked here: whoever opens an image tests what was
 -- taken in, writes it again and compares.
-use Rattle.std.specs.Prelude.{ℕ, zero, suc, cond, List, [], ◌∷◌, eqb, ltb, length}
+use Rattle.std.specs.Prelude.{ℕ, zero, suc, cond, List, [], ◌∷◌, eqb, ltb, length, Option, Some, None}
 use Rattle.request.specs.Bytes.{◌#◌}
 use Rattle.records.specs.Places.{with}
 use Rattle.records.specs.House.{House, empty_house, put_user, put_rooms, put_script, put_session, add_draft}
@@ -11,8 +11,6 @@ use Rattle.records.specs.declared.Draft.{Draft}
 use Rattle.records.specs.declared.Rule.{Rule}
 use Rattle.image.specs.Forms.{Width, sizes, fields_at, Form}
 use Rattle.image.specs.Image.{counter_form, rule_form, user_form, room_form, script_form, session_form, draft_form}
-use Rattle.reader.specs.declared.Length.{Length}
-use Rattle.reader.specs.declared.Length.TheVariants.{Known, Unknown}
 use Rattle.reader.specs.declared.Walk.{Walk}
 
 -- what an image holds: the records, the last number used, and the rule
@@ -79,9 +77,9 @@ abbrev pub find : List Row → ℕ → Sought
 find [] kind = none
 find (r ∷ rs) kind = cond (eqb kind r.kind) (at r) (find rs kind)
 
-abbrev pub length_at : Sought → Length
-length_at (at r) = Known (sizes r.widths)
-length_at none = Unknown
+abbrev pub length_at : Sought → Option ℕ
+length_at (at r) = Some (sizes r.widths)
+length_at none = None
 
 -- a body taken in
 abbrev pub taken_in : Sought → List ℕ → Saved → Saved
@@ -108,9 +106,9 @@ walked (suc skip) s (b ∷ rest) = walked skip s rest
 walked zero s (kind ∷ rest) = frame (find rows kind) rest s (λ n t. walked n t rest)
 
 -- ---- the same walk for its stop alone: kinds and lengths decide it
-abbrev pub by_length : Length → ℕ → (ℕ → Walk) → Walk
-by_length Unknown left on = Walk.Unknown
-by_length (Known n) left on = cond (ltb left n) Walk.Cut (on n)
+abbrev pub by_length : Option ℕ → ℕ → (ℕ → Walk) → Walk
+by_length None left on = Walk.Unknown
+by_length (Some n) left on = cond (ltb left n) Walk.Cut (on n)
 
 unfoldable pub stop_of : ℕ → List ℕ → Walk
 stop_of skip [] = Walk.Whole

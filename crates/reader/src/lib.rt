@@ -10,13 +10,6 @@ ghost use Rattle.reader.specs.Reading.{saved, blank, rows, find, length_at, take
 use bodies::{byte_at, draft_of, quad_at, script_of, session_of, user_of};
 use records::{Cells, Rule};
 
-// How long the body of a kind is.
-#[derive(Clone, Copy)]
-pub enum Length {
-    Known(usize),
-    Unknown,
-}
-
 // How a walk over the frames ends.
 #[derive(Clone, Copy)]
 pub enum Walk {
@@ -32,18 +25,19 @@ pub struct Walked {
     pub rule: Rule,
 }
 
-fn length_of(kind: u8) -> Length
+// How long the body of a kind is, where it is known.
+fn length_of(kind: u8) -> Option<usize>
     ensures { result ≡ length_at (find rows kind) }
 {
     match kind {
-        0x40 => Length::Known(4),
-        0x46 => Length::Known(0),
-        0x41 => Length::Known(14),
-        0x42 => Length::Known(1),
-        0x43 => Length::Known(5),
-        0x44 => Length::Known(7),
-        0x45 => Length::Known(9),
-        _ => Length::Unknown,
+        0x40 => Some(4),
+        0x46 => Some(0),
+        0x41 => Some(14),
+        0x42 => Some(1),
+        0x43 => Some(5),
+        0x44 => Some(7),
+        0x45 => Some(9),
+        _ => None,
     }
 }
 
@@ -92,7 +86,7 @@ pub fn take_all(image: &[u8], records: &mut Cells, last: &mut u32) -> Walked
     let mut at = 0;
     'frames: while at < image.len() {
         let kind = image[at];
-        let Length::Known(n) = length_of(kind) else {
+        let Some(n) = length_of(kind) else {
             return Walked {
                 walk: Walk::Unknown,
                 rule,

@@ -1,4 +1,5 @@
 -- Asking by lines: one, then some and more.
+use Rattle.std.specs.Prelude.{Option, Some, None}
 use Prim.Native.Nat.{ℕ}
 use mathlib.Core.Path.{◌≡◌, refl, sym, ap, ◌∙◌}
 use mathlib.Core.Bool.{Bool, true, false}
@@ -8,8 +9,6 @@ use lib.ListN.{get_or, length}
 use Rattle.records.specs.House.{House, draft_at, no_draft}
 use Rattle.records.specs.Lookups.{find_draft, at_found, draft}
 use Rattle.records.specs.declared.Draft.{Draft}
-use Rattle.records.specs.declared.Found.{Found}
-use Rattle.records.specs.declared.Found.TheVariants.{At, Nothing}
 use Rattle.reasons.specs.Reasons.{Decided, decided}
 use Rattle.reasons.specs.Asking.{Line, ◌unless◌, ◌because◌, asked, both}
 use Rattle.reasons.specs.declared.Reason.{Reason}
@@ -84,7 +83,7 @@ module _ (h : House) (k v : ℕ) where
       so Holds e = ap (λ (j : ℕ). record { asked = Holds; at = j }) q
       so (Fails x) e = failed refl e
 
-  pub place_found : {x : Found} {i : ℕ} → x ≡ find_draft h k v → x ≡ At i → i ≡ place_if h Holds (find_draft h k v)
+  pub place_found : {x : Option ℕ} {i : ℕ} → x ≡ find_draft h k v → x ≡ Some i → i ≡ place_if h Holds (find_draft h k v)
   place_found p q = rw (sym p ∙ q)
 
   -- what was handed out
@@ -101,9 +100,9 @@ module _ (h : House) (k v : ℕ) where
   pub stands_in : {a : Asked} {r : Reached} → r ≡ reached_by h k v a → r.asked ≡ Holds → draft_at h r.at ≡ draft h k v
   stands_in e t = ap (draft_at h) (place_in e t) ∙ go (find_draft h k v)
     where
-      go : (x : Found) → draft_at h (place_if h Holds x) ≡ at_found x (draft_at h) no_draft
-      go (At i) = refl
-      go Nothing = behind h.drafts no_draft
+      go : (x : Option ℕ) → draft_at h (place_if h Holds x) ≡ at_found x (draft_at h) no_draft
+      go (Some i) = refl
+      go None = behind h.drafts no_draft
 
 -- lines that are asked of the draft d, which is the draft e where all before hold
 pub reached : (xs : List Line) (f : Draft → List Line) {a r : Asked} {d e : Draft} → a ≡ asked xs → (a ≡ Holds → d ≡ e) → r ≡ both a (asked (f d)) → r ≡ asked (xs ++ f e)

@@ -6,7 +6,7 @@ ghost use Rattle.reasons.specs.Lines.{user_exists, room_exists, enroller_exists,
 ghost use Rattle.reasons.specs.Shared.{opens};
 
 use crate::{Asked, USER, flag, labels, missing, no_record, of_room, of_user, only};
-use records::{Cells, Found};
+use records::Cells;
 
 impl Asked {
     pub fn user_exists(self, records: &Cells, u: u8) -> Asked
@@ -15,7 +15,7 @@ impl Asked {
         let Asked::Holds = self else {
             return self;
         };
-        let Found::At(_) = records::find_user(records, u) else {
+        let Some(_) = records::find_user(records, u) else {
             return missing(u as u32);
         };
         Asked::Holds
@@ -27,7 +27,7 @@ impl Asked {
         let Asked::Holds = self else {
             return self;
         };
-        let Found::At(_) = records::find_room(records, room) else {
+        let Some(_) = records::find_room(records, room) else {
             return missing(room as u32);
         };
         Asked::Holds
@@ -50,7 +50,7 @@ impl Asked {
         let Asked::Holds = self else {
             return self;
         };
-        let Found::Nothing = records::find_user(records, new) else {
+        let None = records::find_user(records, new) else {
             return of_user(5, false, new, new as u32, new as u32);
         };
         Asked::Holds
@@ -62,7 +62,7 @@ impl Asked {
         let Asked::Holds = self else {
             return self;
         };
-        let Found::Nothing = records::find_room(records, room) else {
+        let None = records::find_room(records, room) else {
             return of_room(5, false, room, room as u32, room as u32);
         };
         Asked::Holds

@@ -6,7 +6,7 @@ ghost use Rattle.reasons.specs.Lines.{session_exists, session_new, ends_session,
 ghost use Rattle.reasons.specs.Shared.{covers, as_script};
 
 use crate::{Asked, SESSION, flag, labels, missing, of_draft, of_session, only};
-use records::{Cells, Found};
+use records::Cells;
 
 impl Asked {
     pub fn session_exists(self, records: &Cells, session: u8) -> Asked
@@ -15,7 +15,7 @@ impl Asked {
         let Asked::Holds = self else {
             return self;
         };
-        let Found::At(_) = records::find_session(records, session) else {
+        let Some(_) = records::find_session(records, session) else {
             return missing(session as u32);
         };
         Asked::Holds
@@ -27,7 +27,7 @@ impl Asked {
         let Asked::Holds = self else {
             return self;
         };
-        let Found::Nothing = records::find_session(records, session) else {
+        let None = records::find_session(records, session) else {
             return of_session(5, false, session, session as u32, session as u32);
         };
         Asked::Holds

@@ -7,7 +7,7 @@ ghost use Rattle.reasons.specs.Shared.{imports};
 ghost use Rattle.reasons.specs.Reach.{reached_by};
 
 use crate::{Asked, Reached, SCRIPT, labels, missing, of_draft, of_script, only};
-use records::{Cells, Found, Rule};
+use records::{Cells, Rule};
 
 impl Asked {
     pub fn script_exists(self, records: &Cells, script: u8) -> Asked
@@ -16,7 +16,7 @@ impl Asked {
         let Asked::Holds = self else {
             return self;
         };
-        let Found::At(_) = records::find_script(records, script) else {
+        let Some(_) = records::find_script(records, script) else {
             return missing(script as u32);
         };
         Asked::Holds
@@ -29,7 +29,7 @@ impl Asked {
         let Asked::Holds = self else {
             return Reached { asked: self, at: 0 };
         };
-        let Found::At(at) = records::find_draft(records, script, number) else {
+        let Some(at) = records::find_draft(records, script, number) else {
             let asked = missing(number);
             return Reached { asked, at: 0 };
         };
@@ -45,7 +45,7 @@ impl Asked {
         let Asked::Holds = self else {
             return self;
         };
-        let Found::Nothing = records::find_script(records, script) else {
+        let None = records::find_script(records, script) else {
             return of_script(5, false, script, script as u32, script as u32);
         };
         Asked::Holds

@@ -1,4 +1,5 @@
 -- Lookups: what a search has still to look through, and what a found draft is.
+use Rattle.std.specs.Prelude.{Some, None}
 use Prim.Native.Nat.{ℕ, suc, ◌+◌, ◌-◌, ◌≤◌, ◌<◌}
 use mathlib.Core.Path.{◌≡◌, refl, ◌∙◌}
 use mathlib.Core.Bool.{Bool, true, false, cond, ◌||◌}
@@ -11,14 +12,13 @@ use lib.Seq.{drop-cons}
 use Rattle.records.specs.Lists.{any}
 use Rattle.records.specs.House.{House, draft_at, no_draft}
 use Rattle.records.specs.Lookups.{first_from, draft_is, find_draft, draft}
-use Rattle.records.specs.declared.Found.TheVariants.{At, Nothing}
 
 -- ---- a search from the front: the element at hand, and then the rest
 module _ {A : Type 0} (p : A → Bool) (l : List A) (i : ℕ) where
-  pub first_more : (d : A) → i < length l → first_from i p (drop i l) ≡ cond (p (get_or l i d)) (At i) (first_from (i + 1) p (drop (i + 1) l))
+  pub first_more : (d : A) → i < length l → first_from i p (drop i l) ≡ cond (p (get_or l i d)) (Some i) (first_from (i + 1) p (drop (i + 1) l))
   first_more d h = rw (drop-cons l i d h, add-one)
 
-  pub first_end : length l ≤ i → first_from i p (drop i l) ≡ Nothing
+  pub first_end : length l ≤ i → first_from i p (drop i l) ≡ None
   first_end h = rw (drop_of_length-le l h)
 
 -- ---- no draft before place i has that number: for every script the search goes on there
@@ -35,11 +35,11 @@ pub record Stands {A : Type 0} (n : ℕ) (p : A → Bool) (l : List A) (d : A) (
   pub holds : p (get_or l (i - n) d) ≡ true
 
 module _ {A : Type 0} (p : A → Bool) where
-  pub first_stands : (n : ℕ) (l : List A) (d : A) (i : ℕ) → first_from n p l ≡ At i → Stands n p l d i
+  pub first_stands : (n : ℕ) (l : List A) (d : A) (i : ℕ) → first_from n p l ≡ Some i → Stands n p l d i
   first_stands n [] d i e = absurd (let z : ◌≡◌ {A = ℕ} 0 1 = cc in omega arith)
   first_stands n (x ∷ xs) d i e = go (first_stands (suc n) xs d i) (p x) refl e
     where
-      go : (first_from (suc n) p xs ≡ At i → Stands (suc n) p xs d i) → (b : Bool) → p x ≡ b → cond b (At n) (first_from (suc n) p xs) ≡ At i → Stands n p (x ∷ xs) d i
+      go : (first_from (suc n) p xs ≡ Some i → Stands (suc n) p xs d i) → (b : Bool) → p x ≡ b → cond b (Some n) (first_from (suc n) p xs) ≡ Some i → Stands n p (x ∷ xs) d i
       go rest true h f =
           let z : n ≡ i = cc in
           let y : i - n ≡ 0 = omega arith in
@@ -50,37 +50,37 @@ module _ {A : Type 0} (p : A → Bool) where
           record { from = omega arith; below = omega arith; holds = rw y r.holds }
 
   -- nothing is found exactly where the test holds of none
-  pub first_nothing : (n : ℕ) (l : List A) → first_from n p l ≡ Nothing → any p l ≡ false
+  pub first_nothing : (n : ℕ) (l : List A) → first_from n p l ≡ None → any p l ≡ false
   first_nothing n [] e = refl
   first_nothing n (x ∷ xs) e = go (first_nothing (suc n) xs) (p x) e
     where
-      go : (first_from (suc n) p xs ≡ Nothing → any p xs ≡ false) → (b : Bool) → cond b (At n) (first_from (suc n) p xs) ≡ Nothing → (b || any p xs) ≡ false
+      go : (first_from (suc n) p xs ≡ None → any p xs ≡ false) → (b : Bool) → cond b (Some n) (first_from (suc n) p xs) ≡ None → (b || any p xs) ≡ false
       go rest true f = absurd (let z : ◌≡◌ {A = ℕ} 0 1 = cc in omega arith)
       go rest false f = rest f
 
-  pub nothing_first : (n : ℕ) (l : List A) → any p l ≡ false → first_from n p l ≡ Nothing
+  pub nothing_first : (n : ℕ) (l : List A) → any p l ≡ false → first_from n p l ≡ None
   nothing_first n [] e = refl
   nothing_first n (x ∷ xs) e = go (nothing_first (suc n) xs) (p x) e
     where
-      go : (any p xs ≡ false → first_from (suc n) p xs ≡ Nothing) → (b : Bool) → (b || any p xs) ≡ false → cond b (At n) (first_from (suc n) p xs) ≡ Nothing
+      go : (any p xs ≡ false → first_from (suc n) p xs ≡ None) → (b : Bool) → (b || any p xs) ≡ false → cond b (Some n) (first_from (suc n) p xs) ≡ None
       go rest true f = absurd (let z : ◌≡◌ {A = ℕ} 0 1 = cc in omega arith)
       go rest false f = rest f
 
 -- ---- a draft by script and number
 module _ (h : House) (s v : ℕ) where
-  pub found_draft : (i : ℕ) → find_draft h s v ≡ At i → draft h s v ≡ draft_at h i
+  pub found_draft : (i : ℕ) → find_draft h s v ≡ Some i → draft h s v ≡ draft_at h i
   found_draft i e = rw e
 
-  pub found_is : (i : ℕ) → find_draft h s v ≡ At i → draft_is s v (draft_at h i) ≡ true
+  pub found_is : (i : ℕ) → find_draft h s v ≡ Some i → draft_is s v (draft_at h i) ≡ true
   found_is i e =
       let z : i - 0 ≡ i = omega arith in
       rw z at (first_stands (draft_is s v) 0 h.drafts no_draft i e).holds
 
-  pub found_below : (i : ℕ) → find_draft h s v ≡ At i → i < length h.drafts
+  pub found_below : (i : ℕ) → find_draft h s v ≡ Some i → i < length h.drafts
   found_below i e = omega (arith, (first_stands (draft_is s v) 0 h.drafts no_draft i e).below)
 
-  pub no_draft_lem : find_draft h s v ≡ Nothing → any (draft_is s v) h.drafts ≡ false
+  pub no_draft_lem : find_draft h s v ≡ None → any (draft_is s v) h.drafts ≡ false
   no_draft_lem = first_nothing (draft_is s v) 0 h.drafts
 
-  pub draft_none : any (draft_is s v) h.drafts ≡ false → find_draft h s v ≡ Nothing
+  pub draft_none : any (draft_is s v) h.drafts ≡ false → find_draft h s v ≡ None
   draft_none = nothing_first (draft_is s v) 0 h.drafts

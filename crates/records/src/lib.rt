@@ -67,12 +67,6 @@ pub struct Draft {
     pub places: u32,
 }
 
-#[derive(Clone, Copy)]
-pub enum Found {
-    At(usize),
-    Nothing,
-}
-
 // The rule that a desk is opened under, for its whole life: what Import asks of the labels of two scripts.
 #[derive(Clone, Copy)]
 pub enum Rule {

@@ -4,7 +4,7 @@ ghost use Rattle.records.specs.House.{no_user, view, user, put_user, put_rooms};
 ghost use Rattle.records.specs.Lookups.{find_user, find_room};
 
 use crate::sets::has;
-use crate::{Cells, Found, USERS, User, flag, sized};
+use crate::{Cells, USERS, User, flag, sized};
 
 // ---- reading and storing: past the end the absent one is read and nothing is stored
 pub fn no_user() -> User
@@ -70,24 +70,15 @@ pub fn put_rooms(records: &mut Cells, rooms: u32)
 }
 
 // ---- lookups
-pub fn find_user(records: &Cells, u: u8) -> Found
+pub fn find_user(records: &Cells, u: u8) -> Option<usize>
     ensures { result ≡ find_user (view records.now) u }
 {
     let i = u as usize;
-    let user = user_at(records, i);
-    if user.here {
-        Found::At(i)
-    } else {
-        Found::Nothing
-    }
+    user_at(records, i).here.then_some(i)
 }
 
-pub fn find_room(records: &Cells, room: u8) -> Found
+pub fn find_room(records: &Cells, room: u8) -> Option<usize>
     ensures { result ≡ find_room (view records.now) room }
 {
-    if has(rooms(records), room) {
-        Found::At(room as usize)
-    } else {
-        Found::Nothing
-    }
+    has(rooms(records), room).then_some(room as usize)
 }

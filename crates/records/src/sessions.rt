@@ -3,7 +3,7 @@ ghost use Rattle.std.specs.Prelude.{◌≡◌};
 ghost use Rattle.records.specs.House.{no_session, view, session, put_session};
 ghost use Rattle.records.specs.Lookups.{find_session};
 
-use crate::{Cells, Found, SESSIONS, Session, flag, sized};
+use crate::{Cells, SESSIONS, Session, flag, sized};
 
 pub fn no_session() -> Session
     ensures { result ≡ no_session }
@@ -51,14 +51,9 @@ pub fn put_session(records: &mut Cells, i: usize, session: Session)
     records[at + 5] = session.place as u32;
 }
 
-pub fn find_session(records: &Cells, session: u8) -> Found
+pub fn find_session(records: &Cells, session: u8) -> Option<usize>
     ensures { result ≡ find_session (view records.now) session }
 {
     let i = session as usize;
-    let session = session_at(records, i);
-    if session.here {
-        Found::At(i)
-    } else {
-        Found::Nothing
-    }
+    session_at(records, i).here.then_some(i)
 }

@@ -4,7 +4,7 @@ ghost use Rattle.records.specs.Tables.{put_at};
 ghost use Rattle.records.specs.House.{no_script, draft_table, view, script, draft_at, put_script, put_draft, cut_drafts, add_draft};
 ghost use Rattle.records.specs.Lookups.{find_script, first_from, draft_is, find_draft};
 
-use crate::{Cells, DRAFTS, Draft, Found, SCRIPTS, Script, flag, sized};
+use crate::{Cells, DRAFTS, Draft, SCRIPTS, Script, flag, sized};
 
 // ---- scripts: past the end the absent one is read and nothing is stored
 pub fn no_script() -> Script
@@ -47,16 +47,11 @@ pub fn put_script(records: &mut Cells, i: usize, script: Script)
     records[at + 3] = script.origin as u32;
 }
 
-pub fn find_script(records: &Cells, script: u8) -> Found
+pub fn find_script(records: &Cells, script: u8) -> Option<usize>
     ensures { result ≡ find_script (view records.now) script }
 {
     let i = script as usize;
-    let script = script_at(records, i);
-    if script.here {
-        Found::At(i)
-    } else {
-        Found::Nothing
-    }
+    script_at(records, i).here.then_some(i)
 }
 
 // ---- drafts
@@ -176,7 +171,7 @@ fn others(records: &Cells, number: u32) -> usize
 }
 
 // Where the draft of that script and number stands among the live ones.
-pub fn find_draft(records: &Cells, script: u8, number: u32) -> Found
+pub fn find_draft(records: &Cells, script: u8, number: u32) -> Option<usize>
     ensures { result ≡ find_draft (view records.now) script number }
 {
     let end = draft_count(records);
@@ -184,8 +179,8 @@ pub fn find_draft(records: &Cells, script: u8, number: u32) -> Found
     'drafts: for i in start..end {
         let draft = draft_at(records, i);
         if draft_is(draft, script, number) {
-            return Found::At(i);
+            return Some(i);
         }
     }
-    Found::Nothing
+    None
 }

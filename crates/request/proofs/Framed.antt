@@ -1,4 +1,5 @@
 -- A request in nine bytes: zeros follow what is written out, and it is read as that request.
+use Rattle.std.specs.Prelude.{Ok, Err}
 use mathlib.Core.Path.{◌≡◌, refl, sym, ap, ◌∙◌}
 use mathlib.Core.Bool.{Bool, true, false, cond}
 use mathlib.Core.List.{List, [], ◌∷◌, ◌++◌}
@@ -11,12 +12,12 @@ use Rattle.request.specs.Bytes.{◌#◌}
 use Rattle.request.specs.Kinds.{Sought, at, none, rows, find}
 use Rattle.request.specs.Reading.{fields_from, request_at, request_of, frame_at, frame_of}
 use Rattle.request.specs.Writing.{written, framed}
-use Rattle.request.specs.declared.Frame.TheVariants.{Whole, Cut}
 use Rattle.request.specs.declared.Request.{Request}
 use Rattle.request.proofs.Absurd.{differ}
 use Rattle.request.proofs.Ways.{by_row}
 use Rattle.request.proofs.RoundTrip.{written_is_read}
 use Rattle.request.proofs.Framing.{whole_is}
+use Rattle.request.specs.declared.FrameError.TheVariants.{Cut}
 
 pub framed_length : (q : Request) → length (framed q) ≡ 9
 framed_length q = length-take-le 9 (written q ++ replicate 9 0) (omega (arith, length-append (written q) (replicate 9 0), length-replicate {A = ℕ} 9 0))
@@ -31,17 +32,17 @@ take_on [] ys k h = record { rest = take k ys; is = refl }
 take_on (x ∷ xs) ys zero h = absurd (omega arith)
 take_on (x ∷ xs) ys (suc k) h = let r = take_on xs ys k (omega arith) in record { rest = r.rest; is = ap (λ (t : List ℕ). x ∷ t) r.is }
 
-framed_is_read : (q : Request) → frame_of (framed q) ≡ Whole q
+framed_is_read : (q : Request) → frame_of (framed q) ≡ Ok q
 framed_is_read q =
     let w = whole_is (written q ++ []) q (written_is_read q []) in
     let o = take_on (written q) (replicate 9 0) 9 (omega (arith, w.size, w.few)) in
     ap frame_of o.is ∙ written_is_read q o.rest
 
 -- ---- and these nine bytes make it again
-whole_makes : (s : Sought) (b : List ℕ) (q : Request) → frame_at s b ≡ Whole q → request_at s b ≡ q
+whole_makes : (s : Sought) (b : List ℕ) (q : Request) → frame_at s b ≡ Ok q → request_at s b ≡ q
 whole_makes (at r) b q e = go (leb (length b) r.length) e
   where
-    go : (t : Bool) → cond t Cut (Whole (fields_from b 1 r.body)) ≡ Whole q → fields_from b 1 r.body ≡ q
+    go : (t : Bool) → cond t (Err Cut) (Ok (fields_from b 1 r.body)) ≡ Ok q → fields_from b 1 r.body ≡ q
     go true e = differ (cc)
     go false e = cc
 whole_makes none b q e = differ (cc)

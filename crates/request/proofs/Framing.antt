@@ -1,4 +1,5 @@
 -- Bytes cut into requests, one request at a time: where the series ends, how a request goes before the rest, and that the bytes are the requests written out.
+use Rattle.std.specs.Prelude.{Result, Ok, Err}
 use mathlib.Core.Path.{◌≡◌, refl, sym, ap, ◌∙◌, subst}
 use mathlib.Core.Bool.{Bool, true, false, cond}
 use mathlib.Core.List.{List, [], ◌∷◌, ◌++◌, append_assoc}
@@ -13,14 +14,14 @@ use Rattle.request.specs.Kinds.{Row, Sought, at, none, rows, find, length_at, bo
 use Rattle.request.specs.Reading.{fields_from, frame_at, frame_of}
 use Rattle.request.specs.Writing.{written}
 use Rattle.request.specs.Framing.{no_bytes, unknown_kind, cut_body, Series, ends, before, by_frame, series_from, series_of, kind_of, written_out}
-use Rattle.request.specs.declared.Frame.{Frame}
-use Rattle.request.specs.declared.Frame.TheVariants.{Whole, Unknown, Cut}
 use Rattle.request.specs.declared.Request.{Request}
 use Rattle.request.proofs.Rows.{Found, found, short_found}
 use Rattle.request.proofs.Spelling.{Right, all_right, headed}
 use Rattle.request.proofs.Ways.{empty}
 use Rattle.request.proofs.RoundTrip.{read_is_written}
 use Rattle.request.proofs.Absurd.{differ}
+use Rattle.request.specs.declared.FrameError.{FrameError}
+use Rattle.request.specs.declared.FrameError.TheVariants.{Unknown, Cut}
 
 -- ---- a whole request has its row's kind and length, and lies within the bytes that it was read off
 pub record Whole-is (b : List ℕ) (q : Request) : Type 0 where
@@ -36,12 +37,12 @@ module _ (b : List ℕ) where
     inside : n < length b
     few : n ≤ 8
 
-  pub whole_is : (q : Request) → frame_of b ≡ Whole q → Whole-is b q
+  pub whole_is : (q : Request) → frame_of b ≡ Ok q → Whole-is b q
   unfolding frame_of body_length
   whole_is q e = let o = first (eqb (length b) 0) e in record { kind = o.kind; size = o.size; inside = o.inside; few = o.few }
     where
       whole : (r : Row) → Found Right (b # 0) r → r.length ≤ 8 → (t : Bool) → leb (length b) r.length ≡ t
-          → cond t Cut (Whole (fields_from b 1 r.body)) ≡ Whole q → OfRow q r.length
+          → cond t (Err Cut) (Ok (fields_from b 1 r.body)) ≡ Ok q → OfRow q r.length
       whole r f few true l e = differ cc
       whole r f few false l e =
           let h = headed b r f.holds in
@@ -53,11 +54,11 @@ module _ (b : List ℕ) where
             few = few;
           }
 
-      row_of : (s : Sought) → find rows (b # 0) ≡ s → frame_at s b ≡ Whole q → OfRow q (length_at s)
+      row_of : (s : Sought) → find rows (b # 0) ≡ s → frame_at s b ≡ Ok q → OfRow q (length_at s)
       row_of none f e = differ cc
       row_of (at r) f e = whole r (found Right (b # 0) r rows all_right f) (short_found (b # 0) r rows tt f) (leb (length b) r.length) refl e
 
-      first : (t : Bool) → cond t Cut (frame_at (find rows (b # 0)) b) ≡ Whole q → OfRow q (length_at (find rows (b # 0)))
+      first : (t : Bool) → cond t (Err Cut) (frame_at (find rows (b # 0)) b) ≡ Ok q → OfRow q (length_at (find rows (b # 0)))
       first true e = differ cc
       first false e = row_of (find rows (b # 0)) refl e
 
@@ -69,27 +70,27 @@ skipped (suc n) [] = refl
 skipped (suc n) (x ∷ b) = skipped n b
 
 -- no bytes at all are a cut request
-not_unknown : frame_of [] ≡ Unknown → ⊥
-not_unknown e = let c : Cut ≡ frame_of [] = empty [] refl in differ cc
+not_unknown : frame_of [] ≡ Err Unknown → ⊥
+not_unknown e = let c : Err Cut ≡ frame_of [] = empty [] refl in differ cc
 
-not_whole : (q : Request) → frame_of [] ≡ Whole q → ⊥
-not_whole q e = let c : Cut ≡ frame_of [] = empty [] refl in differ cc
+not_whole : (q : Request) → frame_of [] ≡ Ok q → ⊥
+not_whole q e = let c : Err Cut ≡ frame_of [] = empty [] refl in differ cc
 
 pub series_empty : series_of [] ≡ ends no_bytes
 unfolding series_from
 series_empty = refl
 
-pub series_unknown : (b : List ℕ) → frame_of b ≡ Unknown → series_of b ≡ ends (unknown_kind (b # 0))
+pub series_unknown : (b : List ℕ) → frame_of b ≡ Err Unknown → series_of b ≡ ends (unknown_kind (b # 0))
 unfolding series_from
 series_unknown [] e = absurd (not_unknown e)
 series_unknown (kind ∷ rest) e = rw e
 
-pub series_cut : (b : List ℕ) → 0 < length b → frame_of b ≡ Cut → series_of b ≡ ends (cut_body (b # 0))
+pub series_cut : (b : List ℕ) → 0 < length b → frame_of b ≡ Err Cut → series_of b ≡ ends (cut_body (b # 0))
 unfolding series_from
 series_cut [] l e = absurd (omega (arith, l))
 series_cut (kind ∷ rest) l e = rw e
 
-pub series_whole : (b : List ℕ) (q : Request) → frame_of b ≡ Whole q → series_of b ≡ before q (series_of (drop (suc (body_length (b # 0))) b))
+pub series_whole : (b : List ℕ) (q : Request) → frame_of b ≡ Ok q → series_of b ≡ before q (series_of (drop (suc (body_length (b # 0))) b))
 unfolding series_from
 series_whole [] q e = absurd (not_whole q e)
 series_whole (kind ∷ rest) q e = rw (e, skipped (body_length kind) rest)
@@ -97,9 +98,9 @@ series_whole (kind ∷ rest) q e = rw (e, skipped (body_length kind) rest)
 -- ---- the series of some bytes, taken apart
 pub data Cuts : List ℕ → Series → Type 0 where
   nothing : {b : List ℕ} → b ≡ [] → Cuts b (ends no_bytes)
-  unknown : {b : List ℕ} → 0 < length b → frame_of b ≡ Unknown → Cuts b (ends (unknown_kind (b # 0)))
-  cut : {b : List ℕ} → 0 < length b → frame_of b ≡ Cut → Cuts b (ends (cut_body (b # 0)))
-  whole : {b : List ℕ} → 0 < length b → (q : Request) → frame_of b ≡ Whole q → (s : Series) → Cuts (drop (suc (body_length (b # 0))) b) s → Cuts b (before q s)
+  unknown : {b : List ℕ} → 0 < length b → frame_of b ≡ Err Unknown → Cuts b (ends (unknown_kind (b # 0)))
+  cut : {b : List ℕ} → 0 < length b → frame_of b ≡ Err Cut → Cuts b (ends (cut_body (b # 0)))
+  whole : {b : List ℕ} → 0 < length b → (q : Request) → frame_of b ≡ Ok q → (s : Series) → Cuts (drop (suc (body_length (b # 0))) b) s → Cuts b (before q s)
 
 cuts_from : (k : ℕ) (b : List ℕ) → Cuts (drop k b) (series_from k b)
 unfolding series_from
@@ -107,11 +108,11 @@ cuts_from k [] = nothing (drop-nil k)
 cuts_from (suc k) (x ∷ b) = cuts_from k b
 cuts_from zero (kind ∷ rest) = by_frame_lem (cuts_from (body_length kind) rest) (frame_of (kind ∷ rest)) refl
   where
-    by_frame_lem : Cuts (drop (body_length kind) rest) (series_from (body_length kind) rest) → (f : Frame) → frame_of (kind ∷ rest) ≡ f
+    by_frame_lem : Cuts (drop (body_length kind) rest) (series_from (body_length kind) rest) → (f : Result Request FrameError) → frame_of (kind ∷ rest) ≡ f
         → Cuts (kind ∷ rest) (by_frame f (ends (unknown_kind kind)) (ends (cut_body kind)) (λ (q : Request). before q (series_from (body_length kind) rest)))
-    by_frame_lem later Unknown e = unknown {b = kind ∷ rest} (omega arith) e
-    by_frame_lem later Cut e = cut {b = kind ∷ rest} (omega arith) e
-    by_frame_lem later (Whole q) e = whole {b = kind ∷ rest} (omega arith) q e _ later
+    by_frame_lem later (Err Unknown) e = unknown {b = kind ∷ rest} (omega arith) e
+    by_frame_lem later (Err Cut) e = cut {b = kind ∷ rest} (omega arith) e
+    by_frame_lem later (Ok q) e = whole {b = kind ∷ rest} (omega arith) q e _ later
 
 pub cuts : (b : List ℕ) → Cuts b (series_of b)
 cuts b = cuts_from 0 b

@@ -1,4 +1,5 @@
 -- Reading is the inverse of writing out, both ways.
+use Rattle.std.specs.Prelude.{Ok, Err}
 use mathlib.Core.Path.{◌≡◌, refl, sym, ap, ◌∙◌}
 use mathlib.Core.Bool.{Bool, true, false, cond}
 use mathlib.Core.List.{List, [], ◌∷◌, ◌++◌, append_assoc}
@@ -13,12 +14,12 @@ use Rattle.request.specs.Bytes.{◌#◌, pair, pair_at, quad, quad_at, pair_byte
 use Rattle.request.specs.Kinds.{Body, one, two, four, make, Row, Sought, at, none, rows, find, length_at, body_length}
 use Rattle.request.specs.Reading.{fields_from, request_of, frame_at, frame_of}
 use Rattle.request.specs.Writing.{Field, Spelling, spelt, written}
-use Rattle.request.specs.declared.Frame.TheVariants.{Whole, Cut}
 use Rattle.request.specs.declared.Request.{Request}
 use Rattle.request.proofs.Absurd.{differ}
 use Rattle.request.proofs.Rows.{Found, found}
 use Rattle.request.proofs.Spelling.{Spells, Right, all_right, onward, spelt_more}
 use Rattle.request.proofs.Ways.{by_row, whole_at}
+use Rattle.request.specs.declared.FrameError.TheVariants.{Cut}
 
 -- the bytes of a number that was read are those it was read from
 pair_back : (x y : ℕ) → y < 256 → (more : List ℕ) → pair_bytes (pair x y) more ≡ x ∷ y ∷ more
@@ -85,20 +86,20 @@ module _ (b : List ℕ) (bytes : (i : ℕ) → b # i < 256) where
       fields_back r.kind (1 + r.length) (omega arith) r.body [] 1 is.holds in
       sym (next 0 l) ∙ ap (λ (k : ℕ). k ∷ drop 1 b) is.kind ∙ sym all ∙ ap (λ (p : Request). written p ++ drop (1 + r.length) b) e
 
-  pub read_is_written : (q : Request) → frame_of b ≡ Whole q → b ≡ written q ++ drop (1 + body_length (b # 0)) b
+  pub read_is_written : (q : Request) → frame_of b ≡ Ok q → b ≡ written q ++ drop (1 + body_length (b # 0)) b
   unfolding frame_of body_length
   read_is_written q e = first (eqb (length b) 0) e
     where
       whole : (r : Row) → find rows (b # 0) ≡ at r → (t : Bool) → leb (length b) r.length ≡ t
-          → cond t Cut (Whole (fields_from b 1 r.body)) ≡ Whole q → b ≡ written q ++ drop (1 + r.length) b
+          → cond t (Err Cut) (Ok (fields_from b 1 r.body)) ≡ Ok q → b ≡ written q ++ drop (1 + r.length) b
       whole r f true l e = differ (cc)
       whole r f false l e = whole_back r q (found Right (b # 0) r rows all_right f) (leb-false (length b) r.length l) (cc)
 
-      row_of : (s : Sought) → find rows (b # 0) ≡ s → frame_at s b ≡ Whole q → b ≡ written q ++ drop (1 + length_at s) b
+      row_of : (s : Sought) → find rows (b # 0) ≡ s → frame_at s b ≡ Ok q → b ≡ written q ++ drop (1 + length_at s) b
       row_of none f e = differ (cc)
       row_of (at r) f e = whole r f (leb (length b) r.length) refl e
 
-      first : (t : Bool) → cond t Cut (frame_at (find rows (b # 0)) b) ≡ Whole q → b ≡ written q ++ drop (1 + length_at (find rows (b # 0))) b
+      first : (t : Bool) → cond t (Err Cut) (frame_at (find rows (b # 0)) b) ≡ Ok q → b ≡ written q ++ drop (1 + length_at (find rows (b # 0))) b
       first true e = differ (cc)
       first false e = row_of (find rows (b # 0)) refl e
 
@@ -110,13 +111,13 @@ pub quad_forth : (v : ℕ) → quad (v / 16777216) (v / 65536 % 256) (v / 256 % 
 quad_forth v = omega arith
 
 spelt_whole : (b : List ℕ) (kind : ℕ) → b # 0 ≡ kind → (length b ≡ 0 → ⊥) → (length_at (find rows kind) ≡ 255 → ⊥) → length_at (find rows kind) < length b
-    → frame_of b ≡ Whole (request_of kind b)
+    → frame_of b ≡ Ok (request_of kind b)
 spelt_whole b kind e ne known l = by_row b ne (find rows kind) (ap (find rows) e) ∙ whole_at (find rows kind) b known l
 
-pub written_is_read : (q : Request) (rest : List ℕ) → frame_of (written q ++ rest) ≡ Whole q
+pub written_is_read : (q : Request) (rest : List ℕ) → frame_of (written q ++ rest) ≡ Ok q
 written_is_read (Request.Enrol u new sort level c admin) rest =
     spelt_whole (written (Request.Enrol u new sort level c admin) ++ rest) 0x01 refl (λ e. omega arith) (λ e. omega arith) (omega arith)
-    ∙ ap (λ (n : ℕ). Whole (Request.Enrol u new sort level n admin)) (pair_forth c)
+    ∙ ap (λ (n : ℕ). Ok (Request.Enrol u new sort level n admin)) (pair_forth c)
 written_is_read (Request.Establish u room) rest =
     spelt_whole (written (Request.Establish u room) ++ rest) 0x02 refl (λ e. omega arith) (λ e. omega arith) (omega arith)
 written_is_read (Request.JoinStaff u w room) rest =
@@ -125,21 +126,21 @@ written_is_read (Request.LeaveStaff u w room) rest =
     spelt_whole (written (Request.LeaveStaff u w room) ++ rest) 0x04 refl (λ e. omega arith) (λ e. omega arith) (omega arith)
 written_is_read (Request.JoinOutsider u w room level c) rest =
     spelt_whole (written (Request.JoinOutsider u w room level c) ++ rest) 0x05 refl (λ e. omega arith) (λ e. omega arith) (omega arith)
-    ∙ ap (λ (n : ℕ). Whole (Request.JoinOutsider u w room level n)) (pair_forth c)
+    ∙ ap (λ (n : ℕ). Ok (Request.JoinOutsider u w room level n)) (pair_forth c)
 written_is_read (Request.LeaveOutsider u w room) rest =
     spelt_whole (written (Request.LeaveOutsider u w room) ++ rest) 0x06 refl (λ e. omega arith) (λ e. omega arith) (omega arith)
 written_is_read (Request.Add u script v room) rest =
     spelt_whole (written (Request.Add u script v room) ++ rest) 0x07 refl (λ e. omega arith) (λ e. omega arith) (omega arith)
-    ∙ ap (λ (n : ℕ). Whole (Request.Add u script n room)) (quad_forth v)
+    ∙ ap (λ (n : ℕ). Ok (Request.Add u script n room)) (quad_forth v)
 written_is_read (Request.Remove u script v room) rest =
     spelt_whole (written (Request.Remove u script v room) ++ rest) 0x08 refl (λ e. omega arith) (λ e. omega arith) (omega arith)
-    ∙ ap (λ (n : ℕ). Whole (Request.Remove u script n room)) (quad_forth v)
+    ∙ ap (λ (n : ℕ). Ok (Request.Remove u script n room)) (quad_forth v)
 written_is_read (Request.Import u script1 v script2 room) rest =
     spelt_whole (written (Request.Import u script1 v script2 room) ++ rest) 0x09 refl (λ e. omega arith) (λ e. omega arith) (omega arith)
-    ∙ ap (λ (n : ℕ). Whole (Request.Import u script1 n script2 room)) (quad_forth v)
+    ∙ ap (λ (n : ℕ). Ok (Request.Import u script1 n script2 room)) (quad_forth v)
 written_is_read (Request.Merge u script v room) rest =
     spelt_whole (written (Request.Merge u script v room) ++ rest) 0x0A refl (λ e. omega arith) (λ e. omega arith) (omega arith)
-    ∙ ap (λ (n : ℕ). Whole (Request.Merge u script n room)) (quad_forth v)
+    ∙ ap (λ (n : ℕ). Ok (Request.Merge u script n room)) (quad_forth v)
 written_is_read (Request.Disband u room) rest =
     spelt_whole (written (Request.Disband u room) ++ rest) 0x0B refl (λ e. omega arith) (λ e. omega arith) (omega arith)
 written_is_read (Request.MakeLead u w room) rest =
@@ -148,19 +149,19 @@ written_is_read (Request.EndLead u w room) rest =
     spelt_whole (written (Request.EndLead u w room) ++ rest) 0x0D refl (λ e. omega arith) (λ e. omega arith) (omega arith)
 written_is_read (Request.OpenInRoom u s room level c) rest =
     spelt_whole (written (Request.OpenInRoom u s room level c) ++ rest) 0x10 refl (λ e. omega arith) (λ e. omega arith) (omega arith)
-    ∙ ap (λ (n : ℕ). Whole (Request.OpenInRoom u s room level n)) (pair_forth c)
+    ∙ ap (λ (n : ℕ). Ok (Request.OpenInRoom u s room level n)) (pair_forth c)
 written_is_read (Request.OpenInHouse u s level c) rest =
     spelt_whole (written (Request.OpenInHouse u s level c) ++ rest) 0x11 refl (λ e. omega arith) (λ e. omega arith) (omega arith)
-    ∙ ap (λ (n : ℕ). Whole (Request.OpenInHouse u s level n)) (pair_forth c)
+    ∙ ap (λ (n : ℕ). Ok (Request.OpenInHouse u s level n)) (pair_forth c)
 written_is_read (Request.OpenReadOnly u s level c) rest =
     spelt_whole (written (Request.OpenReadOnly u s level c) ++ rest) 0x12 refl (λ e. omega arith) (λ e. omega arith) (omega arith)
-    ∙ ap (λ (n : ℕ). Whole (Request.OpenReadOnly u s level n)) (pair_forth c)
+    ∙ ap (λ (n : ℕ). Ok (Request.OpenReadOnly u s level n)) (pair_forth c)
 written_is_read (Request.Read s script v) rest =
     spelt_whole (written (Request.Read s script v) ++ rest) 0x13 refl (λ e. omega arith) (λ e. omega arith) (omega arith)
-    ∙ ap (λ (n : ℕ). Whole (Request.Read s script n)) (quad_forth v)
+    ∙ ap (λ (n : ℕ). Ok (Request.Read s script n)) (quad_forth v)
 written_is_read (Request.Update s script v) rest =
     spelt_whole (written (Request.Update s script v) ++ rest) 0x14 refl (λ e. omega arith) (λ e. omega arith) (omega arith)
-    ∙ ap (λ (n : ℕ). Whole (Request.Update s script n)) (quad_forth v)
+    ∙ ap (λ (n : ℕ). Ok (Request.Update s script n)) (quad_forth v)
 written_is_read (Request.Create s script) rest =
     spelt_whole (written (Request.Create s script) ++ rest) 0x15 refl (λ e. omega arith) (λ e. omega arith) (omega arith)
 written_is_read (Request.Kill u s) rest =

@@ -1,4 +1,5 @@
 -- The ways through `read`, each as a law of `frame_of`.
+use Rattle.std.specs.Prelude.{Result, Ok, Err}
 use mathlib.Core.Path.{◌≡◌, refl, sym, ap, ◌∙◌, subst}
 use mathlib.Core.List.{List, [], ◌∷◌}
 use Prim.Native.Nat.{ℕ, zero, suc, ◌+◌, ◌≤◌, ◌<◌}
@@ -10,14 +11,13 @@ use borrow.Author.Tests.{eq-eqb, ne_eqb, le-leb, lt-leb}
 use Rattle.request.specs.Bytes.{◌#◌}
 use Rattle.request.specs.Kinds.{Row, Sought, at, none, rows, find, length_at, body_length}
 use Rattle.request.specs.Reading.{fields_from, request_at, request_of, frame_at, frame_of, length_in, start_of}
-use Rattle.request.specs.declared.Frame.{Frame}
-use Rattle.request.specs.declared.Frame.TheVariants.{Whole, Unknown, Cut}
 use Rattle.request.specs.declared.Request.{Request}
-use Rattle.request.specs.declared.Start.{Start}
 use Rattle.request.proofs.Rows.{found, short_found, unknown_kind}
 use Rattle.request.proofs.Spelling.{Right, all_right, fields_alike}
+use Rattle.request.specs.declared.FrameError.{FrameError}
+use Rattle.request.specs.declared.FrameError.TheVariants.{Unknown, Cut}
 
-pub empty : (b : List ℕ) → length b ≡ 0 → Cut ≡ frame_of b
+pub empty : (b : List ℕ) → length b ≡ 0 → Err Cut ≡ frame_of b
 unfolding frame_of
 empty b e = rw (eq-eqb (length b) 0 e)
 
@@ -26,11 +26,11 @@ pub by_row : (b : List ℕ) → (length b ≡ 0 → ⊥) → (s : Sought) → fi
 unfolding frame_of
 by_row b ne s e = rw (ne_eqb (length b) 0 ne, e)
 
-pub whole_at : (s : Sought) (b : List ℕ) → (length_at s ≡ 255 → ⊥) → length_at s < length b → frame_at s b ≡ Whole (request_at s b)
+pub whole_at : (s : Sought) (b : List ℕ) → (length_at s ≡ 255 → ⊥) → length_at s < length b → frame_at s b ≡ Ok (request_at s b)
 whole_at (at r) b known l = rw (lt-leb (length b) r.length l)
 whole_at none b known l = absurd (known refl)
 
-cut_at : (s : Sought) (b : List ℕ) → (length_at s ≡ 255 → ⊥) → length b ≤ length_at s → frame_at s b ≡ Cut
+cut_at : (s : Sought) (b : List ℕ) → (length_at s ≡ 255 → ⊥) → length b ≤ length_at s → frame_at s b ≡ Err Cut
 cut_at (at r) b known l = rw (le-leb (length b) r.length l)
 cut_at none b known l = absurd (known refl)
 
@@ -40,18 +40,18 @@ module _ (b : List ℕ) (ne : length b ≡ 0 → ⊥) (x n : ℕ) (is-kind : x �
   unfolding body_length
   length_is = sym (is-length ∙ ap (λ (k : ℕ). length_at (find rows k)) is-kind)
 
-  pub unknown : n ≡ 255 → Unknown ≡ frame_of b
+  pub unknown : n ≡ 255 → Err Unknown ≡ frame_of b
   unknown e = sym (by_row b ne none (unknown_kind (b # 0) (length_is ∙ e)))
 
   module _ (known : n ≡ 255 → ⊥) where
-    pub cut : length b ≤ n → Cut ≡ frame_of b
+    pub cut : length b ≤ n → Err Cut ≡ frame_of b
     cut l =
         sym (by_row b ne (find rows (b # 0)) refl
         ∙ cut_at (find rows (b # 0)) b (λ e. known (sym length_is ∙ e)) (subst (λ (m : ℕ). length b ≤ m) (sym length_is) l))
 
-    pub whole : n < length b → (q : Request) → q ≡ request_of (b # 0) b → Whole q ≡ frame_of b
+    pub whole : n < length b → (q : Request) → q ≡ request_of (b # 0) b → Ok q ≡ frame_of b
     whole l q is =
-        ap Whole is
+        ap Ok is
         ∙ sym (by_row b ne (find rows (b # 0)) refl
         ∙ whole_at (find rows (b # 0)) b (λ e. known (sym length_is ∙ e)) (subst (λ (m : ℕ). m < length b) (sym length_is) l))
 
@@ -81,20 +81,20 @@ nine_will_do x b = go (find rows x) refl
     go none e = refl
 
 -- ---- what is read off bytes, by how far it reaches and by the request of their first byte's row
-abbrev pub framed : Start → Request → Frame
-framed (Start.Whole n) q = Whole q
-framed Start.Unknown q = Unknown
-framed Start.Cut q = Cut
+abbrev pub framed : Result ℕ FrameError → Request → Result Request FrameError
+framed (Ok n) q = Ok q
+framed (Err Unknown) q = Err Unknown
+framed (Err Cut) q = Err Cut
 
 pub as_framed : (b : List ℕ) → frame_of b ≡ framed (start_of b) (request_of (b # 0) b)
 unfolding frame_of
 as_framed b = go (eqb (length b) 0) (find rows (b # 0))
   where
-    inner : (t : Bool) (r : Row) → cond t Cut (Whole (fields_from b 1 r.body)) ≡ framed (length_in (b # 0) (cond t Cut (Whole (fields_from b 1 r.body)))) (fields_from b 1 r.body)
+    inner : (t : Bool) (r : Row) → cond t (Err Cut) (Ok (fields_from b 1 r.body)) ≡ framed (length_in (b # 0) (cond t (Err Cut) (Ok (fields_from b 1 r.body)))) (fields_from b 1 r.body)
     inner true r = refl
     inner false r = refl
 
-    go : (t : Bool) (s : Sought) → cond t Cut (frame_at s b) ≡ framed (length_in (b # 0) (cond t Cut (frame_at s b))) (request_at s b)
+    go : (t : Bool) (s : Sought) → cond t (Err Cut) (frame_at s b) ≡ framed (length_in (b # 0) (cond t (Err Cut) (frame_at s b))) (request_at s b)
     go true s = refl
     go false (at r) = inner (leb (length b) r.length) r
     go false none = refl

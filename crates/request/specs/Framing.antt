@@ -1,12 +1,12 @@
 -- Bytes cut into requests, one behind the other, and what stands where no whole request does. No desk has a say in it.
-use Rattle.std.specs.Prelude.{ℕ, zero, suc, List, [], ◌∷◌, ◌++◌}
+use Rattle.std.specs.Prelude.{ℕ, zero, suc, List, [], ◌∷◌, ◌++◌, Result, Ok, Err}
 use Rattle.request.specs.Bytes.{◌#◌}
 use Rattle.request.specs.Kinds.{body_length}
 use Rattle.request.specs.Reading.{frame_of}
 use Rattle.request.specs.Writing.{written}
-use Rattle.request.specs.declared.Frame.{Frame}
-use Rattle.request.specs.declared.Frame.TheVariants.{Whole, Unknown, Cut}
 use Rattle.request.specs.declared.Request.{Request}
+use Rattle.request.specs.declared.FrameError.{FrameError}
+use Rattle.request.specs.declared.FrameError.TheVariants.{Unknown, Cut}
 
 -- where the requests end: "no bytes left", "unknown kind or cut body", each with the kind byte that stands there
 pub data End : Type 0 where
@@ -25,10 +25,10 @@ abbrev pub before : Request → Series → Series
 before q s = record { requests = q ∷ s.requests; end = s.end }
 
 -- "unknown kind or cut body", or a request
-abbrev pub by_frame : {A : Type 0} → Frame → A → A → (Request → A) → A
-by_frame Unknown unknown cut whole = unknown
-by_frame Cut unknown cut whole = cut
-by_frame (Whole q) unknown cut whole = whole q
+abbrev pub by_frame : {A : Type 0} → Result Request FrameError → A → A → (Request → A) → A
+by_frame (Err Unknown) unknown cut whole = unknown
+by_frame (Err Cut) unknown cut whole = cut
+by_frame (Ok q) unknown cut whole = whole q
 
 -- the bytes behind the next `skip`, which belong to a request that was taken already
 unfoldable pub series_from : ℕ → List ℕ → Series

@@ -128,18 +128,9 @@ pub enum Request {
     },
 }
 
-// What the first bytes of a string hold.
-#[derive(Clone, Copy)]
-pub enum Frame {
-    Whole(Request),
-    Unknown,
-    Cut,
-}
-
-// The same without the fields: of a whole request the length of its body.
-#[derive(Clone, Copy)]
-pub enum Start {
-    Whole(u32),
+// Why bytes begin with no whole frame: no frame has their kind, or its body is cut.
+#[derive(Clone, Copy, PartialEq, Eq)]
+pub enum FrameError {
     Unknown,
     Cut,
 }

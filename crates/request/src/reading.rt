@@ -3,7 +3,7 @@ ghost use Rattle.std.specs.Prelude.{◌≡◌, [], ◌∷◌};
 ghost use Rattle.request.specs.Bytes.{◌#◌, pair, quad};
 ghost use Rattle.request.specs.Reading.{request_of, frame_of, start_of};
 
-use crate::{Frame, Request, Start, UNKNOWN, body_length, wide};
+use crate::{FrameError, Request, UNKNOWN, body_length, wide};
 
 // Byte `at` of a frame, zero past its end, and the numbers that two and four bytes spell.
 fn byte_at(frame: &[u8], at: u8) -> u8
@@ -146,22 +146,22 @@ pub fn request_of(
     }
 }
 
-// How far the request at the start of the bytes reaches.
-pub fn start_of(bytes: &[u8]) -> Start
+// How long the body of the request is at the start of the bytes.
+pub fn start_of(bytes: &[u8]) -> Result<u32, FrameError>
     ensures { result ≡ start_of bytes.now }
 {
     if bytes.len() == 0 {
-        return Start::Cut;
+        return Err(FrameError::Cut);
     }
     let kind = bytes[0];
     let length = body_length(wide(kind));
     if length == UNKNOWN {
-        return Start::Unknown;
+        return Err(FrameError::Unknown);
     }
     if bytes.len() <= length as usize {
-        return Start::Cut;
+        return Err(FrameError::Cut);
     }
-    Start::Whole(length)
+    Ok(length)
 }
 
 // The request that the first bytes spell, where they are a whole one; those behind it are not read.
@@ -182,16 +182,10 @@ pub fn first(bytes: &[u8]) -> Request
 }
 
 // Both at once, for who asks for one request alone.
-pub fn read(bytes: &[u8]) -> Frame
+#[tactic(auto, using(crate::proofs::Ways::as_framed))]
+pub fn read(bytes: &[u8]) -> Result<Request, FrameError>
     ensures { result ≡ frame_of bytes.now }
 {
-    let start = start_of(bytes);
-    match start {
-        Start::Unknown => Frame::Unknown,
-        Start::Cut => Frame::Cut,
-        Start::Whole(_) => {
-            let request = first(bytes);
-            Frame::Whole(request)
-        }
-    }
+    start_of(bytes)?;
+    Ok(first(bytes))
 }

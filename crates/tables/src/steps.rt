@@ -3,7 +3,6 @@ ghost use Rattle.std.specs.Prelude.{◌≤◌};
 
 use crate::lines;
 use records::Cells;
-use request::Frame;
 use std::io;
 use std::io::Write;
 
@@ -80,8 +79,7 @@ fn change<W: Write>(
     number: u32,
 ) -> io::Result<()> {
     let frame = frame_of(kind, body);
-    let read = request::read(&frame);
-    let Frame::Whole(request) = read else {
+    let Ok(request) = request::read(&frame) else {
         return lines::say(out, b"no request\n");
     };
     effects::apply(records, request, number);

@@ -1,4 +1,5 @@
 -- Every reason explains the answer of the desk, in every state; and of bytes it is the request's that they begin with.
+use Rattle.std.specs.Prelude.{Ok, Err}
 use Prim.Native.Nat.{ℕ}
 use mathlib.Core.Path.{◌≡◌, refl, sym, ap, ◌∙◌}
 use mathlib.Core.Bool.{Bool, true, false}
@@ -9,7 +10,6 @@ use lib.Dec.{eqb}
 use lib.ListN.{length}
 use Rattle.request.specs.Reading.{frame_of}
 use Rattle.request.specs.Writing.{written}
-use Rattle.request.specs.declared.Frame.TheVariants.{Whole, Unknown, Cut}
 use Rattle.request.specs.declared.Request.{Request}
 use Rattle.request.proofs.RoundTrip.{written_is_read}
 use Rattle.request.proofs.Ways.{empty}
@@ -37,6 +37,7 @@ use Rattle.effects.specs.Effects.{change_of}
 use Rattle.history.specs.Desk.{verdict_of, desk_rules}
 use Rattle.why.specs.Why.{after_lines, desk_lines, reason_of, reason_of_bytes}
 use Rattle.why.specs.Explained.{refusal_of, asked_by, TrueOf, of_records, no_number, no_change, Explained}
+use Rattle.request.specs.declared.FrameError.TheVariants.{Unknown, Cut}
 
 -- ---- the numbers of all that is asked ascend in the order of refusals
 lines_ascend : (rule : Rule) (h : House) (last kept : ℕ) (q : Request) → ascend_from 0 (numbers (desk_lines rule h last kept q)) ≡ true
@@ -124,7 +125,7 @@ module _ (rule : Rule) (d : Desk House Change) (q : Request) where
 
 -- ---- of bytes
 -- "agrees with the judge for every whole frame": whatever is behind it
-pub frame_explained : (rule : Rule) (d : Desk House Change) (b : List ℕ) (q : Request) → frame_of b ≡ Whole q → Explained rule d q (reason_of_bytes rule d.current d.last (length d.log) b)
+pub frame_explained : (rule : Rule) (d : Desk House Change) (b : List ℕ) (q : Request) → frame_of b ≡ Ok q → Explained rule d q (reason_of_bytes rule d.current d.last (length d.log) b)
 frame_explained rule d b q f = rw f (explained rule d q)
 
 module _ (rule : Rule) (h : House) (last kept : ℕ) where
@@ -133,10 +134,10 @@ module _ (rule : Rule) (h : House) (last kept : ℕ) where
   frame_alone q rest = rw (written_is_read q rest)
 
   -- "for other bytes gives 1 or 2 and zeros", 2 for no bytes
-  pub unknown_kind : (b : List ℕ) → frame_of b ≡ Unknown → reason_of_bytes rule h last kept b ≡ bare 1
+  pub unknown_kind : (b : List ℕ) → frame_of b ≡ Err Unknown → reason_of_bytes rule h last kept b ≡ bare 1
   unknown_kind b f = rw f
 
-  pub cut_body : (b : List ℕ) → frame_of b ≡ Cut → reason_of_bytes rule h last kept b ≡ bare 2
+  pub cut_body : (b : List ℕ) → frame_of b ≡ Err Cut → reason_of_bytes rule h last kept b ≡ bare 2
   cut_body b f = rw f
 
   pub no_bytes : reason_of_bytes rule h last kept [] ≡ bare 2

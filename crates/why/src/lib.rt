@@ -8,7 +8,7 @@ ghost use Rattle.why.specs.Why.{reason_after, reason_of, reason_of_bytes};
 use judge::Ruling;
 use reasons::{Asked, Reason};
 use records::{Cells, Rule};
-use request::{Frame, Request};
+use request::{FrameError, Request};
 
 // Of a ruling: a refusal has its reason; where the judge grants, what is asked after it is left. Last is the last number issued, kept how many changes are kept.
 pub fn of_ruling(ruling: Ruling, last: u32, kept: u32) -> Reason
@@ -35,10 +35,9 @@ pub fn explain(records: &Cells, rule: Rule, last: u32, kept: u32, request: Reque
 pub fn explain_bytes(records: &Cells, rule: Rule, last: u32, kept: u32, bytes: &[u8]) -> Reason
     ensures { result ≡ reason_of_bytes rule (view records.now) last kept bytes.now }
 {
-    let frame = request::read(bytes);
-    match frame {
-        Frame::Unknown => reasons::bare(1),
-        Frame::Cut => reasons::bare(2),
-        Frame::Whole(request) => explain(records, rule, last, kept, request),
+    match request::read(bytes) {
+        Err(FrameError::Unknown) => reasons::bare(1),
+        Err(FrameError::Cut) => reasons::bare(2),
+        Ok(request) => explain(records, rule, last, kept, request),
     }
 }

@@ -17,16 +17,16 @@ pub returns-then-image-start : goal.returns-then-image-start
 returns-then-image-start c =
     let f = c.frames in
     let b = c.args.image.now in
-    sym (f.invariant.1 ∙ cut_here _ b f.at (omega arith) c.in-Known.n (sym c.in-Known.is ∙ c.length_of.ensures) (omega arith))
+    sym (f.invariant.1 ∙ cut_here _ b f.at (omega arith) c.in-Some.n (sym c.in-Some.is ∙ c.length_of.ensures) (omega arith))
 
 pub frames-preserved : goal.frames-preserved
 frames-preserved c =
     let f = c.frames in
     let b = c.args.image.now in
-    let told = sym c.in-Known.is ∙ c.length_of.ensures in (
+    let told = sym c.in-Some.is ∙ c.length_of.ensures in (
       omega arith,
-      f.invariant.1 ∙ whole_here _ b f.at (omega arith) c.in-Known.n told (omega arith)
-          ∙ ap (λ (s : Saved). walked 0 s (drop (f.at + 1 + c.in-Known.n) b)) (sym (rw (part_all b (f.at + 1)) at c.take_in-rule.ensures)),
+      f.invariant.1 ∙ whole_here _ b f.at (omega arith) c.in-Some.n told (omega arith)
+          ∙ ap (λ (s : Saved). walked 0 s (drop (f.at + 1 + c.in-Some.n) b)) (sym (rw (part_all b (f.at + 1)) at c.take_in-rule.ensures)),
     )
 
 pub returns : goal.returns

@@ -1,9 +1,9 @@
 -- `start_of` meets its contract: each way through it is a law of `Ways`.
+use Rattle.std.specs.Prelude.{Ok}
 use mathlib.Core.Path.{refl, ap, ◌∙◌}
 use Rattle.request.specs.Bytes.{◌#◌}
 use Rattle.request.specs.Kinds.{body_length}
 use Rattle.request.specs.Reading.{request_of, length_in}
-use Rattle.request.specs.declared.Start.{Start}
 use Rattle.request.proofs.Ways.{empty, unknown, cut, whole}
 use Rattle.request.proofs.reading.start_of.Goals as goal
 
@@ -26,5 +26,5 @@ pub returns : goal.returns
 returns c =
     let b = c.args.bytes.now in
     let n = c.body_length-length.ensures in
-    ap Start.Whole (n ∙ ap body_length c.wide.ensures)
+    ap Ok (n ∙ ap body_length c.wide.ensures)
     ∙ ap (length_in (b # 0)) (whole b c.if-bytes-eq0.false _ _ c.wide.ensures n c.if-length-eq-UNKNOWN.false c.if-bytes-length.false (request_of (b # 0) b) refl)
