@@ -1,5 +1,5 @@
 -- The walk frame by frame: what the frame at a byte does, and that kinds and lengths alone decide where the walk stops.
-use Rattle.std.specs.Prelude.{Some, None, Err}
+use Rattle.std.specs.Prelude.{Some, None, Ok, Err}
 use Rattle.std.specs.List.{slice_range}
 use Prim.Native.Nat.{ℕ, zero, suc, ◌-◌, ◌≤◌, ◌<◌}
 use mathlib.Core.Path.{◌≡◌, refl, sym, ap, ◌∙◌}
@@ -13,7 +13,7 @@ use borrow.Author.Tests.{lt-ltb, le-ltb}
 use Rattle.request.specs.declared.FrameError.TheVariants.{Unknown, Cut}
 use Rattle.request.proofs.Absurd.{differ}
 use Rattle.image.specs.Forms.{sizes}
-use Rattle.reader.specs.Reading.{Saved, rows, Sought, at, none, find, length_at, taken_in, Walk, whole, Taken, stopped, frame, walked, by_length, stop_of}
+use Rattle.reader.specs.Reading.{Saved, rows, Sought, at, none, find, length_at, taken_in, Walk, Taken, stopped, frame, walked, by_length, stop_of}
 
 -- ---- the bytes of a body are passed over
 pub skipped : (xs ys : List ℕ) (s : Saved) → walked (length xs) s (xs ++ ys) ≡ walked 0 s ys
@@ -59,7 +59,7 @@ module _ (s : Saved) (kind : ℕ) (rest : List ℕ) where
       ∙ sym (λ j. walked (length-take-le n rest l j) t (take-append-drop n rest j))
       ∙ skipped (take n rest) (drop n rest) t ∙ ap (walked 0 t) (sym (take_all (length rest - n) (drop n rest) (omega (arith, length-drop n rest))))
 
-pub at_end_lem : (s : Saved) (b : List ℕ) → length b ≡ 0 → walked 0 s b ≡ stopped whole s
+pub at_end_lem : (s : Saved) (b : List ℕ) → length b ≡ 0 → walked 0 s b ≡ stopped (Ok tt) s
 unfolding walked
 at_end_lem s [] h = refl
 at_end_lem s (x ∷ rest) h = absurd (omega arith)

@@ -91,9 +91,6 @@ taken_in none body s = s
 abbrev pub Walk : Type 0
 Walk = Result (Unit {0}) FrameError
 
-abbrev pub whole : Walk
-whole = Ok tt
-
 pub record Taken : Type 0 where
   pub stop : Walk
   pub got : Saved
@@ -108,7 +105,7 @@ frame (at r) rest s on = cond (ltb (length rest) (sizes r.widths)) (stopped (Err
 
 -- the frames behind the next `skip` bytes
 unfoldable pub walked : ℕ → Saved → List ℕ → Taken
-walked skip s [] = stopped whole s
+walked skip s [] = stopped (Ok tt) s
 walked (suc skip) s (b ∷ rest) = walked skip s rest
 walked zero s (kind ∷ rest) = frame (find rows kind) rest s (λ n t. walked n t rest)
 
@@ -118,6 +115,6 @@ by_length None left on = Err Unknown
 by_length (Some n) left on = cond (ltb left n) (Err Cut) (on n)
 
 unfoldable pub stop_of : ℕ → List ℕ → Walk
-stop_of skip [] = whole
+stop_of skip [] = Ok tt
 stop_of (suc skip) (b ∷ rest) = stop_of skip rest
 stop_of zero (kind ∷ rest) = by_length (length_at (find rows kind)) (length rest) (λ n. stop_of n rest)
