@@ -1,10 +1,6 @@
 -- `run` meets its contract: a turn of the loop is a request of the batch in specs/.
-use mathlib.Core.Path.{◌≡◌, subst}
-use Rattle.records.specs.declared.Rule.{Rule}
-use Rattle.history.specs.Machine.{outcome, step}
-use Rattle.history.specs.Desk.{desk_rules}
 use Rattle.history.specs.Lent.{lent}
-use Rattle.history.proofs.Lent.{same_on}
+use Rattle.history.proofs.Lent.{same_on, by_same_rule}
 use Rattle.batch.proofs.Turn.{Over, as_left, as_returned, at_end_lem, no_room, unknown, cut, next}
 use Rattle.batch.proofs.run.Goals.{then-requests-used, else-requests-used+then-room_left-lt5, else-requests-used+else-room_left-lt5+in-Unknown, else-requests-used+else-room_left-lt5+in-Cut}
 use Rattle.batch.proofs.run.Goals as goal
@@ -14,11 +10,11 @@ loop-used-preserved c =
     let h = c.loop-used.invariant in
     let took = c.take-answer.ensures in
     let put = c.put_answer-at-in-Whole in
-    let by_rule = subst (λ (r : Rule). outcome (lent c.take-answer.new.self) c.take-answer.result ≡ step (desk_rules r) (lent c.loop-used.desk) c.first-request.result) h.0.rule took.done in (
+    (
       same_on h.0 took.parts,
       next h.1 c.if-requests-used.false c.room_left.result c.room_left.ensures c.if-room_left-lt5.false
           c.start_of-start.result c.start_of-start.ensures _ c.in-Whole.is c.first-request.result c.first-request.ensures
-          _ c.take-answer.result by_rule put.result put.ensures.0 put.new.out put.ensures.1,
+          _ c.take-answer.result (by_same_rule _ _ h.0 took.done) put.result put.ensures.0 put.new.out put.ensures.1,
     )
 
 -- where the four ways out of the loop meet
