@@ -154,9 +154,12 @@ fn open_anew(word: &[u8], desk: &mut LentDesk) {
     let number = (decimal(&word[..end]) % 4_294_967_296) as u32;
     let opened = history::open(number, rule_number(word, end));
     let anew = opened.desk;
-    *desk.base = anew.base;
-    *desk.log = anew.log;
-    *desk.current = anew.current;
+    let empty = anew.base;
+    let none = anew.log;
+    let same = anew.current;
+    *desk.base = empty;
+    *desk.log = none;
+    *desk.current = same;
     *desk.last = anew.last;
     desk.rule = anew.rule;
 }
