@@ -12,13 +12,7 @@ use records::{Cells, Rule};
 pub fn no_users(records: &Cells) -> bool
     ensures { result ≡ no_users (view records.now) }
 {
-    'users: for i in 0..64 {
-        let user = records::user_at(records, i);
-        if user.here {
-            return false;
-        }
-    }
-    true
+    !(0..64).any(|i| records::user_at(records, i).here)
 }
 
 pub fn is_user(records: &Cells, i: usize) -> bool
