@@ -5,8 +5,7 @@
 
 ghost use Rattle.std.specs.Prelude.{◌≡◌, ◌<◌, ◌≤◌, length, IfOk};
 
-use kept::Log;
-use records::{Cells, Rule};
+use history::LentDesk;
 use std::io;
 use std::io::{Read, Write};
 
@@ -146,125 +145,83 @@ fn rule_number(word: &[u8], end: usize) -> u32 {
     1
 }
 
-// The field LAST: a desk opened with that number, and under that rule, which is the answer. A `+` leaves the desk as it is.
-fn open_anew(
-    word: &[u8],
-    base: &mut Cells,
-    log: &mut Log,
-    current: &mut Cells,
-    last: &mut u32,
-    rule: Rule,
-) -> Rule {
+// The field LAST: a desk opened with that number, and under that rule. A `+` leaves the desk as it is.
+fn open_anew(word: &[u8], desk: &mut LentDesk) {
     if starts(word, b'+') {
-        return rule;
+        return;
     }
     let end = end_at(word, 0, b'/');
     let number = (decimal(&word[..end]) % 4_294_967_296) as u32;
     let opened = history::open(number, rule_number(word, end));
-    let desk = opened.desk;
-    let empty = desk.base;
-    let none = desk.log;
-    let same = desk.current;
-    *base = empty;
-    *log = none;
-    *current = same;
-    *last = desk.last;
-    desk.rule
+    let anew = opened.desk;
+    let empty = anew.base;
+    let none = anew.log;
+    let same = anew.current;
+    *desk.base = empty;
+    *desk.log = none;
+    *desk.current = same;
+    *desk.last = anew.last;
+    desk.rule = anew.rule;
 }
 
 // Runs the batch, and writes what it left.
 fn run_batch<W: Write>(
     out: &mut W,
-    base: &mut Cells,
-    log: &mut Log,
-    current: &mut Cells,
-    last: &mut u32,
-    rule: Rule,
+    desk: &mut LentDesk,
     requests: &[u8],
     answers: &mut [u8],
     place: usize,
 ) -> io::Result<()> {
-    let ran = batch::run(base, log, current, last, rule, requests, answers, place);
+    let ran = batch::run(desk, requests, answers, place);
     let stop = ran.stop;
     number(out, batch::stop_number(stop) as u64)?;
     number(out, ran.used as u64)?;
     number(out, ran.written as u64)?;
-    number(out, *last as u64)?;
+    number(out, *desk.last as u64)?;
     answer_room(out, answers)
 }
 
 // The fields ROOM, PLACE and REQUESTS. Of more than 4,096 bytes the first are taken.
-fn run_fields<W: Write>(
-    out: &mut W,
-    fields: &[u8],
-    base: &mut Cells,
-    log: &mut Log,
-    current: &mut Cells,
-    last: &mut u32,
-    rule: Rule,
-) -> io::Result<()> {
+fn run_fields<W: Write>(out: &mut W, fields: &[u8], desk: &mut LentDesk) -> io::Result<()> {
     let behind_room = behind(fields);
     let mut requests = [0u8; 4096];
     let n = hex(first(behind(behind_room)), &mut requests);
     let mut answers = [0xEEu8; 4096];
     let size = at_most(decimal(first(fields)));
     let place = decimal(first(behind_room)) as usize;
-    run_batch(
-        out,
-        base,
-        log,
-        current,
-        last,
-        rule,
-        &requests[..n],
-        &mut answers[..size],
-        place,
-    )
+    run_batch(out, desk, &requests[..n], &mut answers[..size], place)
 }
 
-// An empty line, and one that starts with `#`, is no case. The answer is the desk's rule, for the case behind this one.
-fn case<W: Write>(
-    out: &mut W,
-    line: &[u8],
-    base: &mut Cells,
-    log: &mut Log,
-    current: &mut Cells,
-    last: &mut u32,
-    rule: Rule,
-) -> io::Result<Rule> {
+// An empty line, and one that starts with `#`, is no case.
+fn case<W: Write>(out: &mut W, line: &[u8], desk: &mut LentDesk) -> io::Result<()> {
     if line.len() == 0 {
-        return Ok(rule);
+        return Ok(());
     }
     if starts(line, b'#') {
-        return Ok(rule);
+        return Ok(());
     }
     let behind_name = behind(line);
-    let opened = open_anew(first(behind_name), base, log, current, last, rule);
+    open_anew(first(behind_name), desk);
     say(out, first(line))?;
-    run_fields(out, behind(behind_name), base, log, current, last, opened)?;
-    say(out, b"\n")?;
-    Ok(opened)
+    run_fields(out, behind(behind_name), desk)?;
+    say(out, b"\n")
 }
 
-// The desk's parts are lent to each case, so that no table is copied.
+// The desk is lent to each case, so that no table is copied.
 fn cases<W: Write>(out: &mut W, input: &[u8]) -> io::Result<()> {
-    let mut base = [0u32; 1858];
-    let mut log = [0u8; 418];
-    let mut current = [0u32; 1858];
-    let mut last: u32 = 0;
-    let mut rule = Rule::One;
+    let opened = history::open(0, 1);
+    let mut desk = opened.desk;
+    let mut lent = LentDesk {
+        base: &mut desk.base,
+        log: &mut desk.log,
+        current: &mut desk.current,
+        last: &mut desk.last,
+        rule: desk.rule,
+    };
     let mut at: usize = 0;
     while at < input.len() {
         let end = end_at(input, at, b'\n');
-        rule = case(
-            out,
-            &input[at..end],
-            &mut base,
-            &mut log,
-            &mut current,
-            &mut last,
-            rule,
-        )?;
+        case(out, &input[at..end], &mut lent)?;
         at = end + 1;
     }
     Ok(())
