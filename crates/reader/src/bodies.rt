@@ -23,12 +23,12 @@ pub(crate) fn quad_at(body: &[u8], at: u8) -> u32
     ensures { result ≡ quad_at body.now at }
 {
     let i = at as usize;
-    request::number_of(
+    u32::from_be_bytes([
         byte_at(body, i),
         byte_at(body, i + 1),
         byte_at(body, i + 2),
         byte_at(body, i + 3),
-    )
+    ])
 }
 
 // ---- the elements: byte 0 is the id
