@@ -116,7 +116,7 @@ fn word_room() -> [u8; 131072]
 // The words behind the program's name, each taken in its turn: that these are the words is trusted, what they ask for is decided in `take_word`.
 // One that is too long for the buffer is read as an empty word: neither is an argument or a number, and of a name only the place is kept.
 fn words(rt: &HostRuntime) -> Arguments {
-    let mut taken = arguments::none();
+    let mut taken = Arguments::none();
     let mut word = word_room();
     for i in 1..usize::MAX {
         let n = match rt.arg(i, &mut word) {
@@ -124,7 +124,7 @@ fn words(rt: &HostRuntime) -> Arguments {
             Err(FillError::TooLong) => 0,
             Err(FillError::NotPresent) => break,
         };
-        taken = arguments::take_word(taken, i, &word[..n]);
+        taken = taken.take_word(i, &word[..n]);
     }
     taken
 }
@@ -152,7 +152,7 @@ fn save_image(rt: &HostRuntime, word: usize, current: &Cells, last: u32, rule: R
 fn answer(
     rt: &HostRuntime,
     why: bool,
-    save: usize,
+    save: Option<usize>,
     base: &mut Cells,
     log: &mut Log,
     current: &mut Cells,
@@ -164,9 +164,9 @@ fn answer(
     let mut buf = [0u8; 1024];
     let mut out = text_room();
     let answered = run(rt, why, base, log, current, last, rule, &mut buf, &mut out);
-    if save == 0 {
+    let Some(save) = save else {
         return answered;
-    }
+    };
     let saved = save_image(rt, save, current, *last, rule);
     answered && saved
 }
@@ -179,7 +179,13 @@ fn tell_rule(rt: &HostRuntime, rule: u32, number: u8) {
 }
 
 // A desk without records, with the last number already used, under the rule of that number. Where that is refused it is told, and nothing is answered.
-fn serve_new(rt: &HostRuntime, why: bool, save: usize, number: u32, rule_number: u32) -> bool {
+fn serve_new(
+    rt: &HostRuntime,
+    why: bool,
+    save: Option<usize>,
+    number: u32,
+    rule_number: u32,
+) -> bool {
     let opened = history::open(number, rule_number);
     let answered = opened.answer;
     let desk = opened.desk;
@@ -233,7 +239,7 @@ fn open_file(
 }
 
 // The desk of an image. What is refused is told, and nothing is answered: the numbers of the empty desk would start again.
-fn serve_image(rt: &HostRuntime, why: bool, save: usize, from: usize) -> bool {
+fn serve_image(rt: &HostRuntime, why: bool, save: Option<usize>, from: usize) -> bool {
     let mut image = image_room();
     let Got::Bytes(n) = files::read_image(rt, from, &mut image) else {
         return false;
@@ -267,7 +273,7 @@ fn serve_image(rt: &HostRuntime, why: bool, save: usize, from: usize) -> bool {
 
 fn serve(rt: &HostRuntime) -> bool {
     let arguments = words(rt);
-    if arguments::wrong(arguments) {
+    if arguments.is_wrong() {
         tell(
             rt,
             b"desk: usage: desk [--last N | --from IMAGE] [--rule R] [--save IMAGE] [--why] <requests >lines\n",
@@ -276,15 +282,15 @@ fn serve(rt: &HostRuntime) -> bool {
     }
     let why = arguments.why;
     let save = arguments.save;
-    if arguments.from != 0 {
-        return serve_image(rt, why, save, arguments.from);
+    if let Some(from) = arguments.from {
+        return serve_image(rt, why, save, from);
     }
     serve_new(
         rt,
         why,
         save,
-        arguments::last_number(arguments),
-        arguments::rule_number(arguments),
+        arguments.last_number(),
+        arguments.rule_number(),
     )
 }
 
