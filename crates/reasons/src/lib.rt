@@ -117,7 +117,7 @@ fn is_new(kind: Kind, there: bool, id: u8) -> Result<(), Reason>
 }
 
 // Two labels, of which these parts fail or differ: the record holds level and categories, and l and c are wanted. The place never counts.
-#[tactic(auto, using(crate::proofs::Asking::asked_more))]
+#[tactic(auto, using(crate::proofs::Asking::first))]
 fn labels(
     parts: Parts,
     kind: Kind,

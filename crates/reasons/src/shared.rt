@@ -11,7 +11,7 @@ use crate::{
 };
 use records::Cells;
 
-#[tactic(auto, using(crate::proofs::Asking::asked_more), unfolding(crate::specs::Shared::pair_numbers))]
+#[tactic(auto, using(crate::proofs::Asking::first), unfolding(crate::specs::Shared::pair_numbers))]
 pub fn pair_numbers(u: u8, w: u8, room: u8) -> Result<(), Reason>
     ensures { result ≡ asked (pair_numbers u w room) }
 {
@@ -21,7 +21,7 @@ pub fn pair_numbers(u: u8, w: u8, room: u8) -> Result<(), Reason>
     room_low(room)
 }
 
-#[tactic(auto, using(crate::proofs::Asking::asked_more), unfolding(crate::specs::Shared::pair_led))]
+#[tactic(auto, using(crate::proofs::Asking::first), unfolding(crate::specs::Shared::pair_led))]
 pub fn pair_led(records: &Cells, u: u8, w: u8, room: u8) -> Result<(), Reason>
     ensures { result ≡ asked (pair_led (view records.now) u w room) }
 {
@@ -31,7 +31,7 @@ pub fn pair_led(records: &Cells, u: u8, w: u8, room: u8) -> Result<(), Reason>
     leads(records, u, room)
 }
 
-#[tactic(auto, using(crate::proofs::Asking::asked_more, crate::proofs::Asking::more, crate::proofs::Asking::held), unfolding(crate::specs::Shared::draft_led))]
+#[tactic(auto, using(crate::proofs::Asking::first, crate::proofs::Asking::more), unfolding(crate::specs::Shared::draft_led))]
 pub fn draft_led(records: &Cells, u: u8, script: u8, number: u32, room: u8) -> Result<usize, Reason>
     ensures { result ≡ reached_by (view records.now) script number (asked (draft_led (view records.now) u script number room)) }
 {
@@ -44,7 +44,7 @@ pub fn draft_led(records: &Cells, u: u8, script: u8, number: u32, room: u8) -> R
     Ok(at)
 }
 
-#[tactic(auto, using(crate::proofs::Asking::asked_more), unfolding(crate::specs::Shared::draft_asked))]
+#[tactic(auto, using(crate::proofs::Asking::first), unfolding(crate::specs::Shared::draft_asked))]
 pub fn draft_asked(records: &Cells, session: u8, script: u8, number: u32) -> Result<usize, Reason>
     ensures { result ≡ reached_by (view records.now) script number (asked (draft_asked (view records.now) session script number)) }
 {
