@@ -43,6 +43,7 @@ impl From<FrameError> for OpenError {
 }
 
 // Whether these bytes are the image of the records, the last number and the rule: it is written again and compared. Any image fits.
+#[tactic(auto, using(image::proofs::Ways::never_refused))]
 fn is_image(records: &Cells, last: u32, rule: Rule, bytes: &[u8]) -> bool
     ensures { result ≡ same_bytes (image_of (view records.now) last rule) bytes.now }
 {
@@ -50,7 +51,7 @@ fn is_image(records: &Cells, last: u32, rule: Rule, bytes: &[u8]) -> bool
     let Ok(n) = image::save(records, last, rule, &mut again) else {
         return false;
     };
-    again[..n] == *bytes
+    &again[..n] == bytes
 }
 
 // The records, the last number and the rule that the image holds; where it is refused, what the reader took in.
