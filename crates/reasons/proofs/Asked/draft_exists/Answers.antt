@@ -18,5 +18,5 @@ returns c =
     let a = c.args in
     let h = view a.records.now in
     let e = c.find_draft.ensures in
-    let t = c.in-At.is in
+    let t = c.in-Some.is in
     reached_at (view c.args.records.now) c.args.script c.args.number (next c.in-Holds.is (holds _ _ (draft_found h a.script a.number e t))) refl (place_found h a.script a.number e t)

@@ -4,4 +4,4 @@ use Rattle.reasons.proofs.Lookups.{found}
 use Rattle.reasons.proofs.Asked.script_exists.Goals as goal
 
 pub returns : goal.returns
-returns c = next c.in-Holds.is (holds _ _ (found _ _ c.find_script.ensures c.in-At.is))
+returns c = next c.in-Holds.is (holds _ _ (found _ _ c.find_script.ensures c.in-Some.is))

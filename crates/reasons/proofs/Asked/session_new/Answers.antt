@@ -10,5 +10,5 @@ use Rattle.reasons.proofs.Asked.session_new.Goals as goal
 pub returns : goal.returns
 returns c =
     let a = c.args in
-    let none = missing (is_session (view a.records.now) a.session) _ c.find_session.ensures c.in-Nothing.is in
+    let none = missing (is_session (view a.records.now) a.session) _ c.find_session.ensures c.in-None.is in
     next c.in-Holds.is (holds _ _ (ap not none))

@@ -10,5 +10,5 @@ use Rattle.reasons.proofs.Asked.user_new.Goals as goal
 pub returns : goal.returns
 returns c =
     let a = c.args in
-    let none = missing (is_user (view a.records.now) a.new) _ c.find_user.ensures c.in-Nothing.is in
+    let none = missing (is_user (view a.records.now) a.new) _ c.find_user.ensures c.in-None.is in
     next c.in-Holds.is (holds _ _ (ap not none))
