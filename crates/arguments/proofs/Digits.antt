@@ -39,8 +39,8 @@ pub too_large : (n : ℕ) (w : List ℕ) → 2 ^ 32 ≤ n → number_from n w �
 unfolding number_from
 too_large n w l = grind (arith, grows)
 
-pub at_end : (w : List ℕ) (i n : ℕ) → length w ≤ i → n < 2 ^ 32 → number_from n (drop i w) ≡ Some n
+pub at_end_lem : (w : List ℕ) (i n : ℕ) → length w ≤ i → n < 2 ^ 32 → number_from n (drop i w) ≡ Some n
 unfolding number_from
-at_end w i n l small = rw (drop_all i w l, lt-ltb n (2 ^ 32) small) refl
+at_end_lem w i n l small = rw (drop_all i w l, lt-ltb n (2 ^ 32) small) refl
 
-pub ruleset digits = (at_first, no_digit, one_digit, too_large, at_end)
+pub ruleset digits = (at_first, no_digit, one_digit, too_large, at_end_lem)

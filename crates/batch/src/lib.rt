@@ -65,11 +65,7 @@ fn put_answer(out: &mut [u8], answer: Answer) -> usize
     match answer {
         Answer::Granted => 1,
         Answer::Numbered(n) => {
-            let number = request::bytes_of(n);
-            out[1] = number.a;
-            out[2] = number.b;
-            out[3] = number.c;
-            out[4] = number.d;
+            out[1..5].copy_from_slice(&n.to_be_bytes());
             5
         }
         Answer::Refused(_) => 1,

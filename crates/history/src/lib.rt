@@ -98,15 +98,14 @@ pub struct LentDesk<'a> {
 }
 
 impl<'a> LentDesk<'a> {
-    // The change is made and kept, and `last` is the last number issued then.
-    fn make(&mut self, request: Request, number: u32, last: u32)
+    // The change is made and kept.
+    fn make(&mut self, request: Request, number: u32)
         ensures parts { SameParts self.old self.new }
-        ensures done { (rule : Rule) → lent self.new ≡ keep_change (desk_rules rule) (lent self.old) (change_of request number) last }
+        ensures done { (rule : Rule) → lent self.new ≡ keep_change (desk_rules rule) (lent self.old) (change_of request number) self.old.last.now }
     {
         effects::apply(self.current, request, number);
         settle(self.base, self.log);
         kept::push(self.log, Change { request, number });
-        *self.last = last;
     }
 
     // The counter is stepped only where a number is left, and it never goes back.
@@ -114,11 +113,10 @@ impl<'a> LentDesk<'a> {
         ensures parts { SameParts self.old self.new }
         ensures done { (rule : Rule) → outcome (lent self.new) result ≡ issued (desk_rules rule) (lent self.old) (change_of request) (next_after self.old.last.now) }
     {
-        let issued = counter::issue_from(*self.last);
-        let Some(number) = issued.next else {
+        let Some(number) = counter::issue_from(self.last) else {
             return Answer::Refused(11);
         };
-        self.make(request, number, issued.last);
+        self.make(request, number);
         Answer::Numbered(number)
     }
 
@@ -143,7 +141,7 @@ impl<'a> LentDesk<'a> {
             Ruling::Refused(reason) => Answer::Refused(reason.number),
             Ruling::Pass => Answer::Granted,
             Ruling::Keep => {
-                self.make(request, 0, *self.last);
+                self.make(request, 0);
                 Answer::Granted
             }
             Ruling::KeepNumbered => self.make_numbered(request),

@@ -1,4 +1,5 @@
 -- 02, L1: "9 now means the level fails or differs; 16 means only the categories do".
+use Rattle.std.specs.Prelude.{Err}
 use Prim.Native.Nat.{ℕ, ◌≤◌}
 use mathlib.Core.Path.{◌≡◌, refl, sym, ap, ◌∙◌}
 use mathlib.Core.Bool.{Bool, true, false}
@@ -10,7 +11,6 @@ use Rattle.reasons.specs.Asking.{applies}
 use Rattle.reasons.specs.Order.{rank}
 use Rattle.reasons.specs.declared.Reason.{Reason}
 use Rattle.reasons.proofs.Order.{failing, applies_failing, failing_applies}
-use Rattle.judge.specs.declared.Ruling.TheVariants.{Refused}
 use Rattle.judge.specs.Kinds.{lines_of, compared, ruling_of}
 use Rattle.judge.specs.Compared.{Means}
 use Rattle.judge.proofs.Rows.{fine}
@@ -24,7 +24,7 @@ pub sixteen_applies : (rule : Rule) (h : House) (q : Request) → applies 16 (li
 sixteen_applies rule h q = (fine q rule h).4
 
 -- of every refusal: 9, that the level fails or differs; 16, that the level does not, and the categories do
-module _ (rule : Rule) (h : House) (q : Request) (r : Reason) (e : ruling_of rule h q ≡ Refused r) where
+module _ (rule : Rule) (h : House) (q : Request) (r : Reason) (e : ruling_of rule h q ≡ Err r) where
   given : (n : ℕ) → r.number ≡ n → applies n (lines_of rule h q) ≡ true
   given n z = rw (← z) (failing_applies r.number (failing ((refused_exactly rule h q r).0 e)))
 

@@ -1,5 +1,5 @@
 -- What a reason says is true of the present records: for each kind, line by line.
-use Rattle.std.specs.Prelude.{Option, Some, None}
+use Rattle.std.specs.Prelude.{Option, Some, None, Err}
 use Prim.Native.Nat.{ℕ}
 use mathlib.Core.Path.{◌≡◌, refl, sym, ◌∙◌}
 use mathlib.Core.Bool.{Bool, true, false, not, ◌&&◌, ◌||◌}
@@ -23,8 +23,7 @@ use Rattle.reasons.specs.Lines.{a_level}
 use Rattle.reasons.specs.Shared.{pair_numbers, pair_led, draft_led, opens, covers, as_script, imports, draft_asked}
 use Rattle.reasons.specs.Told.{Live, Told, over63, over16, under1, over7, no_sort, no_yes_no, not_plain, no_user, no_room, no_script, no_session, no_draft, user_is, room_is, session_is, script_is, not_first, no_admin, leads_not, ends_not, no_staff, staff_is, no_freelancer, reads_only, in_already, not_in, leads_already, no_lead, only_lead, not_among, is_among, unseen, not_seated, other_origin, level_above, categories_more, level_under, categories_lack, level_other, categories_other, level_unlike, categories_unlike, level_below, categories_fewer, full}
 use Rattle.reasons.specs.declared.Reason.{Reason}
-use Rattle.judge.specs.declared.Ruling.TheVariants.{Refused}
-use Rattle.judge.specs.Kinds.{enrol_where, establish_lines, import_lines, disband_lines, create_lines, kill_lines, take_back_lines, enrol_lines, lines_of, ruling_of}
+use Rattle.judge.specs.Kinds.{enrol_numbers, enrol_where, establish_lines, import_numbers, import_exists, import_lines, disband_lines, create_lines, kill_lines, take_back_lines, enrol_lines, lines_of, ruling_of}
 use Rattle.judge.proofs.Order.{refused_exactly}
 
 -- ---- P holds of the reason of each line, where its fact fails and those before it hold
@@ -72,7 +71,7 @@ module _ (rule : Rule) (h : House) where
   of_the_first field wanted e = not_first field wanted (not-false _ (or_false (not (no_users h)) _ e).0) (or_false (not (no_users h)) _ e).1
 
   sound_enrol : (u new sort level c admin : ℕ) → Sound (Told rule h) (enrol_lines h u new sort level c admin)
-  unfolding enrol_where
+  unfolding enrol_numbers enrol_where
   sound_enrol u new sort level c admin =
       (over63 u, λ _. (over63 new, λ _. (over7 level, λ _. (no_sort sort, λ _. (no_yes_no admin, λ _. (not_plain sort level, λ _. (not_plain sort c, λ _. (not_plain sort admin, λ _. (λ e. no_user u (or_false (no_users h) _ e).1, λ a. (λ e. user_is new (not-false _ e), λ _. (of_the_first u new, λ _. (of_the_first sort staff, λ _. (of_the_first admin 1, λ _. (λ e. no_admin u (or_right (no_users h) _ a (or_false (no_users h) _ e).0) (or_false (no_users h) _ e).1, λ _. tt))))))))))))))
 
@@ -90,7 +89,7 @@ module _ (rule : Rule) (h : House) where
   sound_outsider u w room level own s = (over63 u, λ _. (over63 w, λ _. (over16 room, λ _. (under1 room, λ _. (over7 level, λ _. sound_found u w room own s)))))
 
   sound_led : (u k v room : ℕ) (own : List Line) → (is_script h k ≡ true → Live h v (draft h k v) → Sound (Told rule h) own) → Sound (Told rule h) (draft_led h u k v room ++ own)
-  unfolding draft_led
+  unfolding pair_numbers draft_led
   sound_led u k v room own s = (over63 u, λ _. (over63 k, λ _. (over16 room, λ _. (under1 room, λ _. (no_user u, λ a. (no_room room, λ _. (no_script k, λ t. (no_draft k v, λ d. (leads_not u room a, λ _. s t (live h k v d))))))))))
 
   sound_opens : (u level c : ℕ) → is_user h u ≡ true → Sound (Told rule h) (opens h u level c)
@@ -147,7 +146,7 @@ module _ (rule : Rule) (h : House) where
   sound_asked s k v own f = (over63 k, λ _. (over63 s, λ _. (no_script k, λ a. (no_session s, λ b. (no_draft k v, λ d. f a b (live h k v d))))))
 
   sound_lines : (q : Request) → Sound (Told rule h) (lines_of rule h q)
-  unfolding establish_lines import_lines disband_lines create_lines kill_lines take_back_lines
+  unfolding pair_numbers establish_lines import_numbers import_exists import_lines disband_lines create_lines kill_lines take_back_lines
   sound_lines (Request.Enrol u new sort level c admin) = sound_enrol u new sort level c admin
   sound_lines (Request.Establish u room) = (over63 u, λ _. (over16 room, λ _. (under1 room, λ _. (no_user u, λ a. (λ e. room_is room (not-false _ e), λ _. (no_admin u a, λ _. tt))))))
   sound_lines (Request.JoinStaff u w room) = sound_pair u w room _ (λ b _. (no_staff w b, λ _. (λ e. in_already w room b (not-false _ e), λ _. tt)))
@@ -174,5 +173,5 @@ module _ (rule : Rule) (h : House) where
   pub first_told : (q : Request) (r : Reason) → FirstFailing r (lines_of rule h q) → Told rule h r
   first_told q r f = of_first (Told rule h) (sound_lines q) f
 
-  pub reason_told : (q : Request) (r : Reason) → ruling_of rule h q ≡ Refused r → Told rule h r
+  pub reason_told : (q : Request) (r : Reason) → ruling_of rule h q ≡ Err r → Told rule h r
   reason_told q r e = first_told q r ((refused_exactly rule h q r).0 e)

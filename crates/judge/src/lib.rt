@@ -1,51 +1,43 @@
 // The judge: for each kind of request the grant, or the first condition that fails with its reason. It reads the records and changes nothing.
 #![tactic(auto)]
 
+#[tactic(auto, using(reasons::proofs::Asking::first, reasons::proofs::Asking::more), unfolding(crate::specs::Kinds::enrol_numbers, crate::specs::Kinds::establish_lines, crate::specs::Kinds::disband_lines, crate::specs::Kinds::take_back_lines))]
 mod people;
+#[tactic(auto, using(reasons::proofs::Asking::first, reasons::proofs::Asking::more, std::proofs::lemmas::List::get_or_past), unfolding(crate::specs::Kinds::create_lines, crate::specs::Kinds::kill_lines))]
 mod sessions;
+#[tactic(auto, using(reasons::proofs::Asking::first, reasons::proofs::Asking::more, std::proofs::lemmas::List::get_or_past), unfolding(crate::specs::Kinds::import_numbers, crate::specs::Kinds::import_exists))]
 mod texts;
 
 ghost use Rattle.std.specs.Prelude.{◌≡◌};
 ghost use Rattle.records.specs.House.{view};
-ghost use Rattle.judge.specs.Kinds.{grant_if, ruling_of};
+ghost use Rattle.judge.specs.Kinds.{ruling_of};
 
 use people::{
     disband, end_lead, enrol, establish, join_outsider, join_staff, leave_outsider, leave_staff,
     make_lead, take_back,
 };
-use reasons::{Asked, Reason};
+use reasons::Reason;
 use records::{Cells, Rule};
 use request::Request;
 use sessions::{create, kill, open_in_house, open_in_room, open_read_only, read, update};
 use texts::{add, import, merge, remove};
 
-// What the judge says of a request. Whoever keeps the changes still asks the counter for a number (refusal 11), and whether there is a change to take back (refusal 12).
-#[derive(Clone, Copy)]
-pub enum Ruling {
-    Refused(Reason),
-    // granted, and nothing changes
+// What is granted. Whoever keeps the changes still asks the counter for a number (refusal 11), and whether there is a change to take back (refusal 12).
+#[derive(Clone, Copy, PartialEq, Eq)]
+pub enum Grant {
+    // nothing changes
     Pass,
-    // granted, and the change is kept
+    // the change is kept
     Keep,
-    // granted, and kept with a number that is to be issued
+    // it is kept with a number that is to be issued
     KeepNumbered,
     // the newest kept change may be taken back
     TakeBack,
 }
 
-// A kind's grant where all that was asked holds.
-fn grant_if(grant: Ruling, asked: Asked) -> Ruling
-    ensures { result ≡ grant_if grant asked }
-{
-    match asked {
-        Asked::Holds => grant,
-        Asked::Fails(reason) => Ruling::Refused(reason),
-    }
-}
-
-// ---- every kind, on a desk under the rule. The ruling stands in each arm, so that a kind's walk is compiled into it.
+// ---- every kind, on a desk under the rule. The grant stands in each arm, so that a kind's walk is compiled into it.
 #[tactic(auto, unfolding(crate::specs::Kinds::ruling_of))]
-pub fn judge(records: &Cells, rule: Rule, request: Request) -> Ruling
+pub fn judge(records: &Cells, rule: Rule, request: Request) -> Result<Grant, Reason>
     ensures { result ≡ ruling_of rule (view records.now) request }
 {
     match request {
@@ -56,107 +48,81 @@ pub fn judge(records: &Cells, rule: Rule, request: Request) -> Ruling
             level,
             categories,
             admin,
-        } => grant_if(
-            Ruling::Keep,
-            enrol(records, u, new, sort, level, categories, admin),
-        ),
-        Request::Establish { u, room } => grant_if(Ruling::Keep, establish(records, u, room)),
-        Request::JoinStaff { u, w, room } => grant_if(
-            Ruling::Keep,
-            join_staff(records, u, w, room),
-        ),
-        Request::LeaveStaff { u, w, room } => grant_if(
-            Ruling::Keep,
-            leave_staff(records, u, w, room),
-        ),
+        } => enrol(records, u, new, sort, level, categories, admin).and(Ok(Grant::Keep)),
+        Request::Establish { u, room } => establish(records, u, room).and(Ok(Grant::Keep)),
+        Request::JoinStaff { u, w, room } => join_staff(records, u, w, room).and(Ok(Grant::Keep)),
+        Request::LeaveStaff { u, w, room } => leave_staff(records, u, w, room).and(Ok(Grant::Keep)),
         Request::JoinOutsider {
             u,
             w,
             room,
             level,
             categories: _,
-        } => grant_if(Ruling::Keep, join_outsider(records, u, w, room, level)),
-        Request::LeaveOutsider { u, w, room } => grant_if(
-            Ruling::Keep,
-            leave_outsider(records, u, w, room),
-        ),
+        } => join_outsider(records, u, w, room, level).and(Ok(Grant::Keep)),
+        Request::LeaveOutsider { u, w, room } => leave_outsider(records, u, w, room).and(Ok(
+            Grant::Keep,
+        )),
         Request::Add {
             u,
             script,
             number,
             room,
-        } => grant_if(Ruling::Keep, add(records, u, script, number, room)),
+        } => add(records, u, script, number, room).and(Ok(Grant::Keep)),
         Request::Remove {
             u,
             script,
             number,
             room,
-        } => grant_if(Ruling::Keep, remove(records, u, script, number, room)),
+        } => remove(records, u, script, number, room).and(Ok(Grant::Keep)),
         Request::Import {
             u,
             script1,
             number,
             script2,
             room,
-        } => grant_if(
-            Ruling::KeepNumbered,
-            import(records, rule, u, script1, number, script2, room),
-        ),
+        } => import(records, rule, u, script1, number, script2, room).and(Ok(Grant::KeepNumbered)),
         Request::Merge {
             u,
             script,
             number,
             room,
-        } => grant_if(Ruling::Keep, merge(records, u, script, number, room)),
-        Request::Disband { u, room } => grant_if(Ruling::Keep, disband(records, u, room)),
-        Request::MakeLead { u, w, room } => grant_if(Ruling::Keep, make_lead(records, u, w, room)),
-        Request::EndLead { u, w, room } => grant_if(Ruling::Keep, end_lead(records, u, w, room)),
+        } => merge(records, u, script, number, room).and(Ok(Grant::Keep)),
+        Request::Disband { u, room } => disband(records, u, room).and(Ok(Grant::Keep)),
+        Request::MakeLead { u, w, room } => make_lead(records, u, w, room).and(Ok(Grant::Keep)),
+        Request::EndLead { u, w, room } => end_lead(records, u, w, room).and(Ok(Grant::Keep)),
         Request::OpenInRoom {
             u,
             session,
             room,
             level,
             categories,
-        } => grant_if(
-            Ruling::Keep,
-            open_in_room(records, u, session, room, level, categories),
-        ),
+        } => open_in_room(records, u, session, room, level, categories).and(Ok(Grant::Keep)),
         Request::OpenInHouse {
             u,
             session,
             level,
             categories,
-        } => grant_if(
-            Ruling::Keep,
-            open_in_house(records, u, session, level, categories),
-        ),
+        } => open_in_house(records, u, session, level, categories).and(Ok(Grant::Keep)),
         Request::OpenReadOnly {
             u,
             session,
             level,
             categories,
-        } => grant_if(
-            Ruling::Keep,
-            open_read_only(records, u, session, level, categories),
-        ),
+        } => open_read_only(records, u, session, level, categories).and(Ok(Grant::Keep)),
         Request::Read {
             session,
             script,
             number,
-        } => grant_if(Ruling::Pass, read(records, session, script, number)),
+        } => read(records, session, script, number).and(Ok(Grant::Pass)),
         Request::Update {
             session,
             script,
             number,
-        } => grant_if(
-            Ruling::KeepNumbered,
-            update(records, session, script, number),
-        ),
-        Request::Create { session, script } => grant_if(
-            Ruling::KeepNumbered,
-            create(records, session, script),
-        ),
-        Request::Kill { u, session } => grant_if(Ruling::Keep, kill(records, u, session)),
-        Request::TakeBack { u } => grant_if(Ruling::TakeBack, take_back(records, u)),
+        } => update(records, session, script, number).and(Ok(Grant::KeepNumbered)),
+        Request::Create { session, script } => create(records, session, script).and(Ok(
+            Grant::KeepNumbered,
+        )),
+        Request::Kill { u, session } => kill(records, u, session).and(Ok(Grant::Keep)),
+        Request::TakeBack { u } => take_back(records, u).and(Ok(Grant::TakeBack)),
     }
 }

@@ -1,30 +1,32 @@
--- What a lookup's answer tells of the records.
-use Rattle.std.specs.Prelude.{Option, Some, None}
+-- What the search for a draft answers.
+use Rattle.std.specs.Prelude.{Option, Some, None, Result, Ok, Err}
+use Rattle.std.specs.Option.{ok_or}
 use Prim.Native.Nat.{ℕ}
-use mathlib.Core.Path.{◌≡◌, refl, sym, ◌∙◌}
+use mathlib.Core.Path.{◌≡◌, refl}
 use mathlib.Core.Bool.{Bool, true, false}
+use mathlib.Core.List.{[], ◌∷◌}
 use Rattle.records.specs.House.{House}
-use Rattle.records.specs.Lookups.{found_if, find_draft}
+use Rattle.records.specs.Lookups.{find_draft}
 use Rattle.records.proofs.Lookups.{no_draft_lem, draft_none}
 use Rattle.conditions.specs.Conditions.{is_draft}
+use Rattle.reasons.specs.Reasons.{no_record, reason}
+use Rattle.reasons.specs.Asking.{asked}
+use Rattle.reasons.specs.Lines.{draft_exists}
+use Rattle.reasons.specs.Reach.{reached_by}
 
--- ---- by an id: whether the record is there
-pub found : (b : Bool) (i : ℕ) {j : ℕ} {x : Option ℕ} → x ≡ found_if b i → x ≡ Some j → b ≡ true
-found true i p q = refl
-found false i p q = cc
-
-pub missing : (b : Bool) (i : ℕ) {x : Option ℕ} → x ≡ found_if b i → x ≡ None → b ≡ false
-missing true i p q = cc
-missing false i p q = refl
-
--- ---- a draft, by its script and number
-module _ (h : House) (s v : ℕ) {x : Option ℕ} where
-  pub draft_missing : x ≡ find_draft h s v → x ≡ None → is_draft h s v ≡ false
-  draft_missing p q = no_draft_lem h s v (sym p ∙ q)
-
-  pub draft_found : {j : ℕ} → x ≡ find_draft h s v → x ≡ Some j → is_draft h s v ≡ true
-  draft_found {j} p q = go (is_draft h s v) refl
+module _ (h : House) (k v : ℕ) where
+  draft_found : {i : ℕ} → find_draft h k v ≡ Some i → is_draft h k v ≡ true
+  draft_found {i} e = go (is_draft h k v) refl
     where
-      go : (b : Bool) → is_draft h s v ≡ b → b ≡ true
-      go true e = refl
-      go false e = cc (draft_none h s v e)
+      go : (b : Bool) → is_draft h k v ≡ b → b ≡ true
+      go true p = refl
+      go false p = cc (draft_none h k v p)
+
+  -- its place, or the line that fails
+  pub searched : ok_or (find_draft h k v) (reason 4 (no_record v 0)) ≡ reached_by h k v (asked (draft_exists h k v ∷ []))
+  unfolding asked
+  searched = go (find_draft h k v) refl
+    where
+      go : (x : Option ℕ) → find_draft h k v ≡ x → ok_or (find_draft h k v) (reason 4 (no_record v 0)) ≡ reached_by h k v (asked (draft_exists h k v ∷ []))
+      go (Some i) e = rw (draft_found e, e)
+      go None e = rw (no_draft_lem h k v e, e)

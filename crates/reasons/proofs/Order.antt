@@ -1,4 +1,5 @@
 -- What an answer to some lines says: that all hold, or the reason of the first that fails, whose number is the lowest that applies, by the order of refusals.
+use Rattle.std.specs.Prelude.{Ok, Err}
 use Prim.Native.Nat.{ℕ, suc, ◌≤◌}
 use mathlib.Core.Path.{◌≡◌, refl, sym, ap, ◌∙◌}
 use mathlib.Core.Bool.{Bool, true, false, not, cond, ◌&&◌, ◌||◌}
@@ -11,14 +12,13 @@ use Rattle.reasons.specs.Reasons.{reason, zeros}
 use Rattle.reasons.specs.Asking.{Line, ◌unless◌, ◌because◌, asked, told, AllHold, none, more, FirstFailing, here, later, Failing, this, that, applies, numbers, once_after}
 use Rattle.reasons.specs.Order.{order, is_refusal, before, rank, ascend_from}
 use Rattle.reasons.specs.declared.Reason.{Reason}
-use Rattle.reasons.specs.declared.Asked.TheVariants.{Holds, Fails}
 
-pub all_hold : {ls : List Line} → AllHold ls → asked ls ≡ Holds
+pub all_hold : {ls : List Line} → AllHold ls → asked ls ≡ Ok tt
 unfolding asked
 all_hold none = refl
 all_hold (more e a) = rw e (all_hold a)
 
-pub first_fails : {r : Reason} {ls : List Line} → FirstFailing r ls → asked ls ≡ Fails r
+pub first_fails : {r : Reason} {ls : List Line} → FirstFailing r ls → asked ls ≡ Err r
 unfolding asked
 first_fails (here e q) = rw (e, q)
 first_fails (later e f) = rw e (first_fails f)

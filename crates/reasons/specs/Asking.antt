@@ -1,9 +1,7 @@
 -- Lines asked in their order. 01: "a fact that can't be asked because an earlier one failed doesn't count."
-use Rattle.std.specs.Prelude.{ℕ, ◌≡◌, Bool, true, false, not, cond, ◌&&◌, ◌||◌, List, [], ◌∷◌, eqb}
+use Rattle.std.specs.Prelude.{ℕ, ◌≡◌, Bool, true, false, not, cond, ◌&&◌, ◌||◌, List, [], ◌∷◌, eqb, Result, Ok, Err}
 use Rattle.reasons.specs.Reasons.{Decided, reason, zeros}
 use Rattle.reasons.specs.declared.Reason.{Reason}
-use Rattle.reasons.specs.declared.Asked.{Asked}
-use Rattle.reasons.specs.declared.Asked.TheVariants.{Holds, Fails}
 
 -- `n unless fact because ..`: refused with n unless the fact holds, and then because of what decided
 infixl 70 ◌unless◌ ◌because◌
@@ -13,21 +11,16 @@ pub data Test : Type 0 where
 pub data Line : Type 0 where
   ◌because◌ : Test → Decided → Line
 
--- the first line whose fact fails is told
-unfoldable pub asked : List Line → Asked
-asked [] = Holds
+-- all holds, or the first line whose fact fails is told
+unfoldable pub asked : List Line → Result (Unit {0}) Reason
+asked [] = Ok tt
 asked (n unless true because d ∷ lines) = asked lines
-asked (n unless false because d ∷ lines) = Fails (reason n d)
-
--- what was asked first, and then more
-abbrev pub both : Asked → Asked → Asked
-both Holds next = next
-both (Fails r) next = Fails r
+asked (n unless false because d ∷ lines) = Err (reason n d)
 
 -- the reason: "A grant is all zeros."
-abbrev pub told : Asked → Reason
-told Holds = zeros
-told (Fails r) = r
+abbrev pub told : Result (Unit {0}) Reason → Reason
+told (Ok x) = zeros
+told (Err r) = r
 
 -- ---- what that comes to
 -- every fact holds

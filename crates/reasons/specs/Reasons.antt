@@ -2,6 +2,8 @@
 -- what was wanted".
 use Rattle.std.specs.Prelude.{ℕ}
 use Rattle.reasons.specs.declared.Reason.{Reason}
+use Rattle.reasons.specs.declared.Kind.{Kind}
+use Rattle.reasons.specs.declared.Kind.TheVariants.{User, Room, Script, Session, Draft}
 
 -- what decided: a record by its kind and id, the value that it holds, and the value wanted
 pub record Decided : Type 0 where
@@ -18,6 +20,13 @@ abbrev pub no_record : ℕ → ℕ → Decided
 no_record value bound = decided 0 0 value bound
 
 -- "Record kinds are L2's": 41 user, 42 room, 43 script, 44 session, 45 draft
+abbrev pub kind_number : Kind → ℕ
+kind_number User = 0x41
+kind_number Room = 0x42
+kind_number Script = 0x43
+kind_number Session = 0x44
+kind_number Draft = 0x45
+
 abbrev pub a_user : ℕ → ℕ → ℕ → Decided
 a_user id held wanted = decided 0x41 id held wanted
 

@@ -1,5 +1,5 @@
 -- What several kinds of request ask in common: lists of lines.
-use Rattle.std.specs.Prelude.{ℕ, List, [], ◌∷◌}
+use Rattle.std.specs.Prelude.{ℕ, List, [], ◌∷◌, ◌++◌}
 use Rattle.label.specs.declared.Parts.{Parts}
 use Rattle.records.specs.House.{House, user, script, session}
 use Rattle.records.specs.declared.Rule.{Rule}
@@ -17,17 +17,7 @@ pair_led h u w room = user_exists h u ∷ user_exists h w ∷ room_exists h room
 
 -- 07, 08, 0A: u, a draft and the room
 unfoldable pub draft_led : House → ℕ → ℕ → ℕ → ℕ → List Line
-draft_led h u k v room =
-    an_id u
-    ∷ an_id k
-    ∷ room_high room
-    ∷ room_low room
-    ∷ user_exists h u
-    ∷ room_exists h room
-    ∷ script_exists h k
-    ∷ draft_exists h k v
-    ∷ leads_room h u room
-    ∷ []
+draft_led h u k v room = pair_numbers u k room ++ (user_exists h u ∷ room_exists h room ∷ script_exists h k ∷ draft_exists h k v ∷ leads_room h u room ∷ [])
 
 -- two labels, of which the parts f fail or differ: the level, then the categories, that a record holds and that are wanted
 abbrev pub label_lines : Parts → (ℕ → ℕ → Decided) → ℕ → ℕ → ℕ → ℕ → List Line

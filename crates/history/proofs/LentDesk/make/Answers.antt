@@ -9,4 +9,4 @@ pub returns-clause-done : goal.returns-clause-done
 returns-clause-done c =
     let a = c.args in
     let d = c.args.self.now in
-    λ rule. kept_is rule (view d.base.now) _ (past d.log.now) _ (view d.current.now) _ (change_of a.request a.number) a.last d.last.now c.settle.ensures c.push.ensures c.apply.ensures
+    λ rule. kept_is rule (view d.base.now) _ (past d.log.now) _ (view d.current.now) _ (change_of a.request a.number) d.last.now d.last.now c.settle.ensures c.push.ensures c.apply.ensures
