@@ -10,8 +10,9 @@ ghost use Rattle.history.specs.Desk.{shown, desk_rules, opens, opened_under, ver
 ghost use Rattle.counter.specs.Numbers.{next_after};
 
 use effects::Change;
-use judge::Ruling;
+use judge::Grant;
 use kept::Log;
+use reasons::Reason;
 use records::{Cells, Rule};
 use request::Request;
 
@@ -131,19 +132,19 @@ pub fn act(
     current: &mut Cells,
     last: &mut u32,
     request: Request,
-    ruling: Ruling,
+    ruling: Result<Grant, Reason>,
 ) -> Answer
     ensures { (rule : Rule) → outcome (shown base.new log.new current.new last.new) result ≡ ruled (desk_rules rule) (shown base.old log.old current.old last.old) (verdict_of request ruling) }
 {
     match ruling {
-        Ruling::Refused(reason) => Answer::Refused(reason.number),
-        Ruling::Pass => Answer::Granted,
-        Ruling::Keep => {
+        Err(reason) => Answer::Refused(reason.number),
+        Ok(Grant::Pass) => Answer::Granted,
+        Ok(Grant::Keep) => {
             make(base, log, current, request, 0);
             Answer::Granted
         }
-        Ruling::KeepNumbered => make_numbered(base, log, current, last, request),
-        Ruling::TakeBack => take_back(base, log, current),
+        Ok(Grant::KeepNumbered) => make_numbered(base, log, current, last, request),
+        Ok(Grant::TakeBack) => take_back(base, log, current),
     }
 }
 

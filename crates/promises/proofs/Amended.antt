@@ -37,7 +37,7 @@ module _ (r s : Rule) (d : Desk House Change) where
 
   by_ruling : (q : Request) → ruling_of r d.current q ≡ ruling_of s d.current q → step (desk_rules r) d q ≡ step (desk_rules s) d q
   unfolding step
-  by_ruling q e = done_alike (verdict_of q (ruling_of r d.current q)) ∙ ap (λ (x : Ruling). ruled (desk_rules s) d (verdict_of q x)) e
+  by_ruling q e = done_alike (verdict_of q (ruling_of r d.current q)) ∙ ap (λ (x : Result Grant Reason). ruled (desk_rules s) d (verdict_of q x)) e
 
   -- every request that is no Import
   pub stepped_alike : (q : Request) → (IsImport q → ⊥) → step (desk_rules r) d q ≡ step (desk_rules s) d q
@@ -62,7 +62,7 @@ module _ (d : Desk House Change) (u k₁ v k₂ room : ℕ) where
 
   refused_with : (r : Reason) (n : ℕ) → ruling_of Rule.One d.current q ≡ Refused r → r.number ≡ n → step (desk_rules Rule.One) d q ≡ outcome d (Answer.Refused n)
   unfolding step
-  refused_with r n e is = ap (λ (x : Ruling). ruled (desk_rules Rule.One) d (verdict_of q x)) e ∙ ap (λ (k : ℕ). outcome d (Answer.Refused k)) is
+  refused_with r n e is = ap (λ (x : Result Grant Reason). ruled (desk_rules Rule.One) d (verdict_of q x)) e ∙ ap (λ (k : ℕ). outcome d (Answer.Refused k)) is
 
   pub import_stepped : StepAmended d (step (desk_rules Rule.One) d q) (step (desk_rules Rule.Two) d q)
   import_stepped = go (import_amended d.current u k₁ v k₂ room)

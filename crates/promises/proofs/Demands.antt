@@ -32,7 +32,7 @@ use Rattle.promises.proofs.Trace.{records_are_shown, none_to_take_back, take_bac
 module _ (rule : Rule) (d : Desk House Change) (q : Request) where
   by_ruling : (r : Ruling) → ruling_of rule d.current q ≡ r → step (desk_rules rule) d q ≡ ruled (desk_rules rule) d (verdict_of q r)
   unfolding step
-  by_ruling r e = ap (λ (x : Ruling). ruled (desk_rules rule) d (verdict_of q x)) e
+  by_ruling r e = ap (λ (x : Result Grant Reason). ruled (desk_rules rule) d (verdict_of q x)) e
 
   pub allowed : (r : Ruling) → grant_of q ≡ r → AllHold (lines_of rule d.current q) → ruling_of rule d.current q ≡ r
   allowed r e all = (granted_exactly rule d.current q).1 all ∙ e
