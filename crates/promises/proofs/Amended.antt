@@ -1,5 +1,5 @@
 -- "Only refusals 9 and 16 at Import are amended": in every state, and over any run.
-use Rattle.std.specs.Prelude.{Option, Some, None}
+use Rattle.std.specs.Prelude.{Option, Some, None, Result, Err}
 use Prim.Native.Nat.{ℕ}
 use mathlib.Core.Path.{◌≡◌, refl, ap, ◌∙◌}
 use mathlib.Core.List.{List, [], ◌∷◌}
@@ -10,8 +10,7 @@ use Rattle.records.specs.declared.Rule.{Rule}
 use Rattle.effects.specs.declared.Change.{Change}
 use Rattle.counter.specs.Numbers.{next_after}
 use Rattle.reasons.specs.declared.Reason.{Reason}
-use Rattle.judge.specs.declared.Ruling.{Ruling}
-use Rattle.judge.specs.declared.Ruling.TheVariants.{Refused}
+use Rattle.judge.specs.declared.Grant.{Grant}
 use Rattle.judge.specs.Kinds.{ruling_of}
 use Rattle.judge.specs.Amended.{IsImport, Amended, alike, refuses_9, refuses_16}
 use Rattle.judge.proofs.Amended.{judged_alike, import_amended}
@@ -60,7 +59,7 @@ module _ (d : Desk House Change) (u k₁ v k₂ room : ℕ) where
   abbrev q : Request
   q = Import u k₁ v k₂ room
 
-  refused_with : (r : Reason) (n : ℕ) → ruling_of Rule.One d.current q ≡ Refused r → r.number ≡ n → step (desk_rules Rule.One) d q ≡ outcome d (Answer.Refused n)
+  refused_with : (r : Reason) (n : ℕ) → ruling_of Rule.One d.current q ≡ Err r → r.number ≡ n → step (desk_rules Rule.One) d q ≡ outcome d (Answer.Refused n)
   unfolding step
   refused_with r n e is = ap (λ (x : Result Grant Reason). ruled (desk_rules Rule.One) d (verdict_of q x)) e ∙ ap (λ (k : ℕ). outcome d (Answer.Refused k)) is
 
