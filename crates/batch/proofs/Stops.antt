@@ -1,5 +1,5 @@
 -- "the batch ends at the first of four stops": what each stop says of the bytes used and written.
-use Rattle.std.specs.Prelude.{Result}
+use Rattle.std.specs.Prelude.{Result as Framed}
 use mathlib.Core.Path.{◌≡◌, refl, sym, ap, ◌∙◌, subst}
 use mathlib.Core.List.{List, [], ◌∷◌, ◌++◌, append_assoc}
 use Prim.Native.Nat.{ℕ, suc, ◌+◌, ◌-◌, ◌<◌}
@@ -25,7 +25,7 @@ module _ (b : List ℕ) (room n : ℕ) (inside : n < length b) (bs : List ℕ) w
   left : length (drop (suc n) b) ≡ length b - suc n
   left = length-drop (suc n) b
 
-  frame_before : {f : Result Request FrameError} {x used : ℕ} {bytes : List ℕ} → AtFrame f x (drop (suc n) b) used bytes → AtFrame f x b (suc n + used) (bs ++ bytes)
+  frame_before : {f : Framed Request FrameError} {x used : ℕ} {bytes : List ℕ} → AtFrame f x (drop (suc n) b) used bytes → AtFrame f x b (suc n + used) (bs ++ bytes)
   frame_before {f} {x} {used} {bytes} a =
       record {
         bytes_left = omega (arith, a.bytes_left, left);

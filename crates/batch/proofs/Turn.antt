@@ -1,5 +1,5 @@
 -- What a turn of the batch's loop does to the lists.
-use Rattle.std.specs.Prelude.{Result, Ok, Err}
+use Rattle.std.specs.Prelude.{Result as Framed, Ok, Err}
 use mathlib.Core.Path.{◌≡◌, refl, sym, ap, ◌∙◌, subst}
 use mathlib.Core.List.{List, [], ◌++◌, append_assoc, append-nil}
 use Prim.Native.Nat.{ℕ, suc, ◌+◌, ◌-◌, ◌≤◌, ◌<◌}
@@ -36,7 +36,7 @@ lent A ys bs at k is-k is-ys =
     let l : length (drop at A) ≤ k = simp length-drop (omega arith) in
     simp (is-ys, take_all k (drop at A) l, drop_of_length-le (drop at A) l, drop-drop, append-nil)
 
-length_or0 : Result ℕ FrameError → ℕ
+length_or0 : Framed ℕ FrameError → ℕ
 length_or0 (Ok n) = n
 length_or0 (Err Unknown) = 0
 length_or0 (Err Cut) = 0
@@ -132,7 +132,7 @@ module _ {rule : Rule} {R A₀ : List ℕ} {place : ℕ} {d₀ : State} {A : Lis
         ∙ simp (length-append, length-take-le at A (omega arith), length-drop) (omega (arith, h.same_length))
 
   -- a turn: there are request bytes and answer room, and the rest of the bytes begins so
-  module _ (in-R : used < length R) (room : ℕ) (is-room : room ≡ length A - at) (five : 5 ≤ room) (f : Result ℕ FrameError) (is_f : f ≡ start_of (take (length R - used) (drop used R))) where
+  module _ (in-R : used < length R) (room : ℕ) (is-room : room ≡ length A - at) (five : 5 ≤ room) (f : Framed ℕ FrameError) (is_f : f ≡ start_of (take (length R - used) (drop used R))) where
     room₀ : 5 ≤ length A₀ - at
     room₀ = omega (arith, h.same_length)
 
@@ -143,8 +143,8 @@ module _ {rule : Rule} {R A₀ : List ℕ} {place : ℕ} {d₀ : State} {A : Lis
     begins = sym (is_f ∙ ap start_of all_of_it)
 
     -- the frame there, where f is s
-    ahead : (s : Result ℕ FrameError) → f ≡ s → frame_of (drop used R) ≡ framed s (request_of (drop used R # 0) (drop used R))
-    ahead s is = as_framed (drop used R) ∙ ap (λ (t : Result ℕ FrameError). framed t (request_of (drop used R # 0) (drop used R))) (begins ∙ is)
+    ahead : (s : Framed ℕ FrameError) → f ≡ s → frame_of (drop used R) ≡ framed s (request_of (drop used R # 0) (drop used R))
+    ahead s is = as_framed (drop used R) ∙ ap (λ (t : Framed ℕ FrameError). framed t (request_of (drop used R # 0) (drop used R))) (begins ∙ is)
 
     -- the answer a of r bytes is written, and the batch ends by the stop s
     ends : (s : Stop) (a : Answer) → run_batch rule d (drop used R) (length A₀ - at) ≡ stopped d s (answer_bytes a)

@@ -3,11 +3,10 @@
 
 ghost use Rattle.std.specs.Prelude.{◌≡◌, ◌++◌, ◌-◌, ◌≤◌, length, drop};
 ghost use Rattle.history.specs.Desk.{shown, answer_bytes};
+ghost use Rattle.history.specs.Lent.{lent, SameParts};
 ghost use Rattle.batch.specs.Batch.{stop_number, returned, Batched};
 
-use history::{Answer, Desk};
-use kept::Log;
-use records::{Cells, Rule};
+use history::{Answer, Desk, LentDesk};
 use request::FrameError;
 
 // Why a batch ended: no bytes left, no answer room, an unknown kind, a cut body.
@@ -66,11 +65,7 @@ fn put_answer(out: &mut [u8], answer: Answer) -> usize
     match answer {
         Answer::Granted => 1,
         Answer::Numbered(n) => {
-            let number = request::bytes_of(n);
-            out[1] = number.a;
-            out[2] = number.b;
-            out[3] = number.c;
-            out[4] = number.d;
+            out[1..5].copy_from_slice(&n.to_be_bytes());
             5
         }
         Answer::Refused(_) => 1,
@@ -84,18 +79,10 @@ fn room_left(size: usize, place: usize) -> usize
     if place < size { size - place } else { 0 }
 }
 
-// The desk's parts are lent, so that a batch copies no table, and a request's fields are read where they are handed on. The part of `answers` that is lent on starts at the present place.
-pub fn run(
-    base: &mut Cells,
-    log: &mut Log,
-    current: &mut Cells,
-    last: &mut u32,
-    rule: Rule,
-    requests: &[u8],
-    answers: &mut [u8],
-    place: usize,
-) -> Ran
-    ensures { Batched rule (shown base.old log.old current.old last.old) requests.now answers.old place (shown base.new log.new current.new last.new) result answers.new }
+// The desk is lent, so that a batch copies no table, and a request's fields are read where they are handed on. The part of `answers` that is lent on starts at the present place.
+pub fn run(desk: &mut LentDesk, requests: &[u8], answers: &mut [u8], place: usize) -> Ran
+    ensures parts { SameParts desk.old desk.new }
+    ensures done { Batched desk.old.rule (lent desk.old) requests.now answers.old place (lent desk.new) result answers.new }
 {
     let mut used: usize = 0;
     let mut at = place;
@@ -117,7 +104,7 @@ pub fn run(
             }
             Ok(length) => {
                 let request = request::first(&requests[used..]);
-                let answer = history::take(base, log, current, last, rule, request);
+                let answer = desk.take(request);
                 at += put_answer(&mut answers[at..], answer);
                 used += 1 + length as usize;
             }
@@ -126,33 +113,18 @@ pub fn run(
     Ran::new(stop, used, at - place)
 }
 
-// The same for a desk by value: it is taken apart once, and put together once. Its rule stays.
+// The same for a desk by value, which is lent. Its rule stays.
 pub fn run_desk(desk: Desk, requests: &[u8], answers: &mut [u8], place: usize) -> RanDesk
     ensures { Batched desk.rule (shown desk.base desk.log desk.current desk.last) requests.now answers.old place (shown result.desk.base result.desk.log result.desk.current result.desk.last) result.ran answers.new × (result.desk.rule ≡ desk.rule) }
 {
-    let mut base = desk.base;
-    let mut log = desk.log;
-    let mut current = desk.current;
-    let mut last = desk.last;
-    let rule = desk.rule;
-    let ran = run(
-        &mut base,
-        &mut log,
-        &mut current,
-        &mut last,
-        rule,
-        requests,
-        answers,
-        place,
-    );
-    RanDesk {
-        desk: Desk {
-            base,
-            log,
-            current,
-            last,
-            rule,
-        },
-        ran,
-    }
+    let mut desk = desk;
+    let mut lent = LentDesk {
+        base: &mut desk.base,
+        log: &mut desk.log,
+        current: &mut desk.current,
+        last: &mut desk.last,
+        rule: desk.rule,
+    };
+    let ran = run(&mut lent, requests, answers, place);
+    RanDesk { desk, ran }
 }

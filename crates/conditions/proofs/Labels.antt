@@ -6,7 +6,8 @@ use mathlib.Core.Logic.{◌⊎◌, inl, inr}
 use native.Mathlib.Omega.{arith}
 use lib.Dec.{eqb}
 use lib.Bits.{bit_and, and_comm, and_le_l}
-use borrow.Author.Tests.{eqb-true, eqb-false, eq-eqb, ne_eqb, ltb-false, le-ltb, not-true, not-false}
+use Rattle.std.proofs.lemmas.Bool.{both_ways, and_parts, and_from, or_cases, or_left, or_right, eqb-true, eqb-false, eq-eqb, ne_eqb, ltb-false, le-ltb, not-true, not-false}
+use Rattle.std.proofs.Math.Bool.{and-false, or-false}
 use Rattle.label.specs.declared.Label.TheVariants.{At}
 use Rattle.label.specs.declared.Parts.{Parts}
 use Rattle.label.specs.Labels.{contains, dominates, differs}
@@ -23,7 +24,7 @@ use Rattle.conditions.specs.Conditions.{is_staff, is_at, shares, sees, seen, imp
 use Rattle.conditions.specs.Labels.{Exactly, Covered, Lacks, Alike, Importable, Shared}
 
 clash : {A : Type 0} {b : Bool} → b ≡ true → b ≡ false → A
-clash p q = absurd (let z : ◌≡◌ {A = ℕ} 0 1 = cc in omega arith)
+clash p q = absurd (both_ways _ q p)
 
 -- numbers do not differ exactly when they are equal
 equal : (a b : ℕ) → Exactly (not (not (eqb a b))) (a ≡ b)
@@ -31,8 +32,7 @@ equal a b = record { says = λ t. eqb-true a b (not-false (eqb a b) (not-true (n
 
 -- both tests hold exactly when each does
 both : (a b : Bool) → Exactly (a && b) ((a ≡ true) × (b ≡ true))
-both true b = record { says = λ e. (refl, e); shown = λ e. e.1 }
-both false b = record { says = λ e. clash e refl; shown = λ e. e.0 }
+both a b = record { says = and_parts a b; shown = λ e. and_from a b e.0 e.1 }
 
 -- a set that does not contain another lacks one of it
 lacks : (c c' : ℕ) → (bit_and c c' ≡ c' → ⊥) → Lacks c c'
@@ -109,18 +109,7 @@ shared a b = record { says = told; shown = shown }
         let there : has (bit_and a b) p ≡ true = has_and a b p ∙ (both (has a p) (has b p)).shown (s.of_first, s.of_second) in
         ap not (ne_eqb (bit_and a b) 0 (λ e. clash there (ap (λ (x : ℕ). has x p) e ∙ has_none p)))
 
--- the set that is wanted at a Read: a draft is seen exactly where one of its places is in it
-or_true : (a b : Bool) → (a || b) ≡ true → (a ≡ true) ⊎ (b ≡ true)
-or_true true b e = inl refl
-or_true false b e = inr e
-
-or_left : (a b : Bool) → a ≡ true → (a || b) ≡ true
-or_left a b e = rw e
-
-or_right : (a b : Bool) → b ≡ true → (a || b) ≡ true
-or_right true b e = refl
-or_right false b e = e
-
+-- ---- the set that is wanted at a Read: a draft is seen exactly where one of its places is in it
 -- of the places a, where p alone is wanted
 pub among_exactly : (a p : ℕ) → p ≤ 31 → Exactly (has a p) (Shared a (only p))
 among_exactly a p le = record {
@@ -134,8 +123,8 @@ among_exactly a p le = record {
 -- of the places a, where the rooms b are wanted, and the house too
 with_house : (a b : ℕ) → Exactly (shares a b || (has a house && true)) (Shared a (with b house))
 with_house a b = record {
-  says = λ t. go (or_true (shares a b) (has a house && true) t);
-  shown = λ s. back s.place s.of_first (or_true (eqb house s.place) (has b s.place) (sym (has_with b house (omega arith) s.place) ∙ s.of_second));
+  says = λ t. go (or_cases (shares a b) (has a house && true) t);
+  shown = λ s. back s.place s.of_first (or_cases (eqb house s.place) (has b s.place) (sym (has_with b house (omega arith) s.place) ∙ s.of_second));
 }
   where
     go : (shares a b ≡ true) ⊎ ((has a house && true) ≡ true) → Shared a (with b house)
@@ -152,14 +141,7 @@ with_house a b = record {
     back q h (inr t) = or_left (shares a b) (has a house && true) ((shared a b).shown (record { place = q; of_first = h; of_second = t }))
 
 without_house : (a b : ℕ) → Exactly (shares a b || (has a house && false)) (Shared a b)
-without_house a b = record {
-  says = λ t. go (or_true (shares a b) (has a house && false) t);
-  shown = λ s. or_left (shares a b) (has a house && false) ((shared a b).shown s);
-}
-  where
-    go : (shares a b ≡ true) ⊎ ((has a house && false) ≡ true) → Shared a b
-    go (inl t) = (shared a b).says t
-    go (inr t) = clash ((both (has a house) false).says t).1 refl
+without_house a b = rw (and-false (has a house), or-false (shares a b)) (shared a b)
 
 module _ (s : Session) (owner : User) (d : Draft) where
   -- by an RO session

@@ -1,3 +1,2 @@
--- The laws that the functions' proofs cite, and what the tests of labels say, for the crates above.
-mod Users
+-- What the tests of labels say, for the crates above.
 pub mod Labels

@@ -6,69 +6,62 @@ ghost use Rattle.records.specs.House.{view, user, script, session, draft_at};
 ghost use Rattle.conditions.specs.Conditions.{no_users, leads, is_staff, is_freelancer, may_kill, is_in, is_at, is_seated, of_origin, sees, seen, session_label, script_label, opening, reading, updating, importing, draft_room};
 
 use label::{Label, Parts};
-use records::{Cells, Rule};
+use records::{Cells, Rule, User};
+
+fn staff(user: User) -> bool
+    ensures { result ≡ is_staff user }
+{
+    user.here & (user.sort == 0)
+}
 
 // ---- of the users: i is a user's place
 pub fn no_users(records: &Cells) -> bool
     ensures { result ≡ no_users (view records.now) }
 {
-    'users: for i in 0..64 {
-        let user = records::user_at(records, i);
-        if user.here {
-            return false;
-        }
-    }
-    true
+    !(0..64).any(|i| records::user_at(records, i).here)
 }
 
 pub fn is_user(records: &Cells, i: usize) -> bool
     ensures { result ≡ (user (view records.now) i).here }
 {
-    let user = records::user_at(records, i);
-    user.here
+    records::user_at(records, i).here
 }
 
 pub fn is_staff(records: &Cells, i: usize) -> bool
     ensures { result ≡ is_staff (user (view records.now) i) }
 {
-    let user = records::user_at(records, i);
-    user.here & (user.sort == 0)
+    staff(records::user_at(records, i))
 }
 
 pub fn is_freelancer(records: &Cells, i: usize) -> bool
     ensures { result ≡ is_freelancer (user (view records.now) i) }
 {
-    let user = records::user_at(records, i);
-    user.sort == 1
+    records::user_at(records, i).sort == 1
 }
 
 pub fn leads(records: &Cells, i: usize, room: u8) -> bool
     ensures { result ≡ leads (user (view records.now) i) room }
 {
-    let user = records::user_at(records, i);
-    records::has(user.leads, room)
+    records::has(records::user_at(records, i).leads, room)
 }
 
 pub fn is_in(records: &Cells, i: usize, room: u8) -> bool
     ensures { result ≡ is_in (user (view records.now) i) room }
 {
-    let user = records::user_at(records, i);
-    records::has(user.rooms, room)
+    records::has(records::user_at(records, i).rooms, room)
 }
 
 // ---- of scripts, sessions and drafts: k, s and d are their places
 pub fn of_origin(records: &Cells, k: usize, room: u8) -> bool
     ensures { result ≡ of_origin (script (view records.now) k) room }
 {
-    let script = records::script_at(records, k);
-    script.origin == room
+    records::script_at(records, k).origin == room
 }
 
 pub fn is_at(records: &Cells, d: usize, place: u8) -> bool
     ensures { result ≡ is_at (draft_at (view records.now) d) place }
 {
-    let draft = records::draft_at(records, d);
-    records::has(draft.places, place)
+    records::has(records::draft_at(records, d).places, place)
 }
 
 // The session's place is one of the draft's.
@@ -107,9 +100,8 @@ pub fn sees(records: &Cells, s: usize, d: usize) -> bool
     }
     let owner = records::user_at(records, session.owner as usize);
     let shares = draft.places & owner.rooms != 0;
-    let staff = owner.here & (owner.sort == 0);
     let at_home = records::has(draft.places, 0);
-    shares | at_home & staff
+    shares | at_home & staff(owner)
 }
 
 // Where a session sees drafts: a set of places.
@@ -121,7 +113,7 @@ pub fn seen(records: &Cells, s: usize) -> u32
         return records::with(0, session.place);
     }
     let owner = records::user_at(records, session.owner as usize);
-    if owner.here & (owner.sort == 0) {
+    if staff(owner) {
         return records::with(owner.rooms, 0);
     }
     owner.rooms
@@ -147,15 +139,13 @@ pub fn opening(records: &Cells, i: usize, level: u8, categories: u16) -> Parts
 pub fn reading(records: &Cells, s: usize, k: usize) -> Parts
     ensures { result ≡ reading (session (view records.now) s) (script (view records.now) k) }
 {
-    let over = session_label(records, s);
-    over.dominates(script_label(records, k))
+    session_label(records, s).dominates(script_label(records, k))
 }
 
 pub fn updating(records: &Cells, s: usize, k: usize) -> Parts
     ensures { result ≡ updating (session (view records.now) s) (script (view records.now) k) }
 {
-    let one = session_label(records, s);
-    one.differs(script_label(records, k))
+    session_label(records, s).differs(script_label(records, k))
 }
 
 // Of script 2, the house's, and script 1: k2 and k1 are their places. Rule 1 wants one label, rule 2 that the house's covers the other.

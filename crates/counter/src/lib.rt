@@ -10,51 +10,23 @@ pub struct Counter {
     pub last: u32,
 }
 
-#[derive(Clone, Copy)]
-pub struct Issued {
-    pub next: Option<u32>,
-    pub last: u32,
-}
-
-// The largest number that there is.
-const TOP: u32 = 4294967295;
-
-fn next_after(last: u32) -> Option<u32>
-    ensures { result ≡ next_after last }
-{
-    if last == TOP {
-        return None;
+impl Counter {
+    // Hands out the number after the last and steps there, or none where the numbers are spent.
+    pub fn issue(&mut self) -> Option<u32>
+        ensures { (result ≡ next_after self.old.last) × (self.new.last ≡ last_after self.old.last) }
+    {
+        let next = self.last.checked_add(1);
+        self.last = self.last.saturating_add(1);
+        next
     }
-    Some(last + 1)
-}
-
-fn stepped(last: u32) -> u32
-    ensures { result ≡ last_after last }
-{
-    if last == TOP {
-        return last;
-    }
-    last + 1
-}
-
-// Hands out the number after the last and steps there, or none where the numbers are spent.
-pub fn issue(counter: &mut Counter) -> Option<u32>
-    ensures { (result ≡ next_after counter.old.last) × (counter.new.last ≡ last_after counter.old.last) }
-{
-    let last = counter.last;
-    let now = stepped(last);
-    counter.last = now;
-    next_after(last)
 }
 
 // For a caller that holds the number itself: a counter is made of it and lent, and the number comes back.
-pub fn issue_from(last: u32) -> Issued
-    ensures { (result.next ≡ next_after last) × (result.last ≡ last_after last) }
+pub fn issue_from(last: &mut u32) -> Option<u32>
+    ensures { (result ≡ next_after last.old) × (last.new ≡ last_after last.old) }
 {
-    let mut counter = Counter { last };
-    let next = issue(&mut counter);
-    Issued {
-        next,
-        last: counter.last,
-    }
+    let mut counter = Counter { last: *last };
+    let next = counter.issue();
+    *last = counter.last;
+    next
 }

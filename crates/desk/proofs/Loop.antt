@@ -2,7 +2,7 @@
 use mathlib.Core.Path.{◌≡◌, refl, sym, ap, ◌∙◌, subst}
 use mathlib.Core.Bool.{Bool, true, false, ◌&&◌}
 use mathlib.Core.List.{List, [], ◌∷◌, ◌++◌}
-use Prim.Native.Nat.{ℕ, ◌+◌, ◌-◌, ◌*◌, ◌≤◌, ◌<◌}
+use Prim.Native.Nat.{ℕ, ◌+◌, ◌-◌, ◌*◌, ◌≤◌}
 use native.Mathlib.Omega.{arith}
 use lib.ListN.{length, take, drop, length-append, length-take, length-drop}
 use lib.Seq.{length-take-le, take_at}
@@ -46,10 +46,10 @@ pub record Between (rule : Rule) (why : Bool) (d₀ d : Desk House Change) (ordi
   pub few : have ≤ 8
   pub buf_length : length buf ≡ 1024
   pub out_length : length out ≡ 139264
-  pub small : ordinal + 1024 * turns ≤ 1 + 1024 * 1125899906842624
+  pub small : ordinal ≤ 1 + 1024 * turns
   pub reached : Reached rule why d₀ (stand d ordinal (take have buf))
 
-pub at_start : (rule : Rule) (why : Bool) (d : Desk House Change) (buf out : List ℕ) → length buf ≡ 1024 → length out ≡ 139264 → Between rule why d d 1 0 1125899906842624 buf out
+pub at_start : (rule : Rule) (why : Bool) (d : Desk House Change) (buf out : List ℕ) → length buf ≡ 1024 → length out ≡ 139264 → Between rule why d d 1 0 0 buf out
 at_start rule why d buf out b o =
     record {
       few = omega arith;
@@ -87,8 +87,8 @@ module _ {rule : Rule} {why : Bool} {d₀ d : Desk House Change} {ordinal have t
     (got : ℕ) (room : have + got ≤ length read) (read_length : length read ≡ 1024)
     {d' : Desk House Change} (r : Turn) (buf' out' : List ℕ) (is : TurnIs (turn rule why (stand d ordinal (take have read)) (take got (drop have read))) d' r buf' out')
   where
-    pub again : 0 < turns → length buf' ≡ 1024 → length out' ≡ 139264 → r.onward ≡ true → Between rule why d₀ d' r.ordinal r.have (turns - 1) buf' out'
-    again some b o on =
+    pub again : length buf' ≡ 1024 → length out' ≡ 139264 → r.onward ≡ true → Between rule why d₀ d' r.ordinal r.have (turns + 1) buf' out'
+    again b o on =
         let s : Stand = stand d ordinal (take have read) in
         let piece : List ℕ = take got (drop have read) in
         let goes : (turn rule why s piece).onward ≡ true = sym is.onward ∙ on in
@@ -97,7 +97,7 @@ module _ {rule : Rule} {why : Bool} {d₀ d : Desk House Change} {ordinal have t
           few = omega (arith, is.have, few_waiting rule why d ordinal read have got room goes);
           buf_length = b;
           out_length = o;
-          small = omega (arith, between.small, is.ordinal, near, room, read_length, some);
+          small = omega (arith, between.small, is.ordinal, near, room, read_length);
           reached =
               let here : Reached rule why d₀ s = subst (λ (w : List ℕ). Reached rule why d₀ (stand d ordinal w)) (sym same) between.reached in
               let next : (turn rule why s piece).next ≡ stand d' r.ordinal (take r.have buf') = λ i. stand (sym is.desk i) (sym is.ordinal i) (sym is.waiting i) in

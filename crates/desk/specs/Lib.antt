@@ -1,6 +1,5 @@
 -- What the desk program prints, what it does with the pieces that it reads, and the names of its files.
 pub mod Counts
-pub mod Digits
 pub mod Lines
 pub mod Answers
 pub mod Printed

@@ -1,21 +1,16 @@
 -- The line that is printed for an answer. 01: "ordinal (decimal), kind and answer byte (two hex digits), draft number (decimal) or a dash, one space between".
 -- Where the reasons are asked for: "The line of 01, then five parts more: the refusal's number (decimal, 0 for a grant), the record's kind (two hex digits), its id
 -- or number, the first value, the second value (decimal), one space between."
-use Rattle.std.specs.Prelude.{ℕ, zero, suc, ◌+◌, ◌/◌, ◌%◌, ◌^◌, ◌≡◌, Bool, cond, List, [], ◌∷◌, ◌++◌, ltb, length, take}
-use Rattle.desk.specs.Digits.{last_digits}
+use Rattle.std.specs.Prelude.{ℕ, ◌+◌, ◌/◌, ◌%◌, ◌≡◌, Bool, false, cond, List, [], ◌∷◌, ◌++◌, ltb, length, take}
+use Rattle.std.specs.Fmt.{digits_onto}
 use Rattle.history.specs.Desk.{answer_byte}
 use Rattle.history.specs.declared.Answer.{Answer}
 use Rattle.history.specs.declared.Answer.TheVariants.{Granted, Numbered, Refused}
 use Rattle.reasons.specs.declared.Reason.{Reason}
 
--- how many decimal digits n has, if these are at most m + 1: one more than the largest k up to m with 10 ^ k ≤ n
-unfoldable pub places_to : ℕ → ℕ → ℕ
-places_to zero n = 1
-places_to (suc m) n = cond (ltb n (10 ^ suc m)) (places_to m n) (suc (suc m))
-
 -- a number of 64 bits in decimal: at most 20 digits, no zero in front
 unfoldable pub decimal : ℕ → List ℕ
-decimal n = last_digits 10 (places_to 19 n) n
+decimal n = digits_onto 20 10 false n []
 
 -- `0` to `9`, then `A` to `F`
 abbrev pub hex_digit : ℕ → ℕ

@@ -3,13 +3,12 @@
 //
 // A file is named by a word behind the program's name, which is fetched by its place. The name stands behind `desk: ` in a buffer of its own, so that a
 // message begins with both.
-ghost use Rattle.std.specs.Prelude.{◌≡◌, ◌+◌, ◌≤◌, length};
-ghost use Rattle.desk.specs.Counts.{IsPrefixLen};
+ghost use Rattle.std.specs.Prelude.{◌≡◌, ◌≤◌, length, IfOk};
 ghost use Rattle.desk.specs.Files.{Within};
 
 use crate::lines::{append, refused};
 use crate::names::{folder_length, put_beside, put_letters};
-use crate::told::{NO_TEXT, TAKEN, failed, tell, word_failed};
+use crate::told::{NO_TEXT, TAKEN, Told, failed, tell, word_failed};
 use std::env::Env;
 use std::fs::{File, OpenOptions, remove_file, rename};
 use std::io::{Error, ErrorKind, Read, Write};
@@ -18,78 +17,58 @@ use std::random::RandomSource;
 use std::str::from_utf8;
 
 // `desk: ` and a name of up to 4096 bytes.
-fn name_room() -> [u8; 4102]
-    ensures { 4102 ≡ length result }
-{
-    [0; 4102]
-}
+const NAME: usize = 4102;
 
 // The same with something behind it.
-fn line_room() -> [u8; 4160]
-    ensures { 4160 ≡ length result }
-{
-    [0; 4160]
-}
+const LINE: usize = 4160;
 
-// Puts `desk: ` and the name at the front of text. The answer is where it ends; 0 where the name is too long for the system, which is reported with what
-// there is of it.
-fn put_name(rt: &HostRuntime, word: usize, text: &mut [u8]) -> usize
-    requires { length text.old ≡ 4102 }
-    ensures { IsPrefixLen result text.new }
+// Puts `desk: ` and the name at the front of text, and answers where the name ends. One that is too long for the system is reported with what there is
+// of it.
+fn put_name(rt: &HostRuntime, word: usize, text: &mut [u8; NAME]) -> Result<usize, Told>
+    ensures { IfOk result (λ end. (6 ≤ end) × (end ≤ length text.new)) }
 {
     text[..6].copy_from_slice(b"desk: ");
     match rt.arg(word, &mut text[6..]) {
-        Ok(n) => 6 + n,
-        Err(error) => {
-            failed(rt, text, word_failed(error));
-            0
-        }
+        Ok(n) => Ok(6 + n),
+        Err(error) => Err(failed(rt, text, word_failed(error))),
     }
 }
 
-// How many bytes were read; or it failed, which is reported.
-#[derive(Clone, Copy)]
-pub(crate) enum Got {
-    Bytes(usize),
-    Failed,
-}
-
-// What one read gives; no bytes at the end.
-fn read_some(rt: &HostRuntime, file: &mut File, message: &[u8], bytes: &mut [u8]) -> Got
+// How many bytes one read gives; none at the end.
+fn read_some(
+    rt: &HostRuntime,
+    file: &mut File,
+    message: &[u8],
+    bytes: &mut [u8],
+) -> Result<usize, Told>
     ensures { Within result bytes.new }
 {
-    match file.read(bytes) {
-        Ok(got) => Got::Bytes(got),
-        Err(error) => {
-            failed(rt, message, error);
-            Got::Failed
-        }
-    }
+    file.read(bytes).map_err(|error| failed(rt, message, error))
 }
 
 // The bytes of a file up to its end, or as many as there is room for.
-fn read_all(rt: &HostRuntime, file: &mut File, message: &[u8], bytes: &mut [u8]) -> Got
+fn read_all(
+    rt: &HostRuntime,
+    file: &mut File,
+    message: &[u8],
+    bytes: &mut [u8],
+) -> Result<usize, Told>
     ensures { Within result bytes.new }
 {
-    let mut have: usize = 0;
+    let mut have = 0;
     while have < bytes.len() {
-        let Got::Bytes(got) = read_some(rt, file, message, &mut bytes[have..]) else {
-            return Got::Failed;
-        };
+        let got = read_some(rt, file, message, &mut bytes[have..])?;
         if got == 0 {
             break;
         }
         have += got;
     }
-    Got::Bytes(have)
+    Ok(have)
 }
 
 // A path is text to the library, so that a name which is no UTF-8 opens no file: it fails as the system fails on bytes that are no text.
 fn path(name: &[u8]) -> Result<&str, Error> {
-    match from_utf8(name) {
-        Ok(path) => Ok(path),
-        Err(_) => Err(Error::from_raw_os_error(NO_TEXT)),
-    }
+    from_utf8(name).map_err(|_| Error::from_raw_os_error(NO_TEXT))
 }
 
 fn open_read(rt: &HostRuntime, name: &[u8]) -> Result<File, Error> {
@@ -97,34 +76,26 @@ fn open_read(rt: &HostRuntime, name: &[u8]) -> Result<File, Error> {
 }
 
 // What the file of that name holds, up to the buffer's end.
-pub(crate) fn read_image(rt: &HostRuntime, word: usize, image: &mut [u8]) -> Got
+pub(crate) fn read_image(rt: &HostRuntime, word: usize, image: &mut [u8]) -> Result<usize, Told>
     ensures { Within result image.new }
 {
-    let mut text = name_room();
-    let end = put_name(rt, word, &mut text);
-    if end < 6 {
-        return Got::Failed;
-    }
-    match open_read(rt, &text[6..end]) {
-        Ok(mut file) => read_all(rt, &mut file, &text[..end], image),
-        Err(error) => {
-            failed(rt, &text[..end], error);
-            Got::Failed
-        }
-    }
+    let mut text = [0; NAME];
+    let end = put_name(rt, word, &mut text)?;
+    let message = &text[..end];
+    let mut file = open_read(rt, &message[6..]).map_err(|error| failed(rt, message, error))?;
+    read_all(rt, &mut file, message, image)
 }
 
 // One line: `desk: IMAGE: refused 15`.
-pub(crate) fn tell_refused(rt: &HostRuntime, word: usize, number: u8) {
-    let mut text = name_room();
-    let end = put_name(rt, word, &mut text);
-    if end < 6 {
-        return;
-    }
-    let mut line = line_room();
+pub(crate) fn tell_refused(rt: &HostRuntime, word: usize, number: u8) -> Told {
+    let mut text = [0; NAME];
+    let Ok(end) = put_name(rt, word, &mut text) else {
+        return Told;
+    };
+    let mut line = [0; LINE];
     let at = append(&mut line, 0, &text[..end]);
     let n = refused(number, &mut line, at);
-    tell(rt, &line[..n]);
+    tell(rt, &line[..n])
 }
 
 // A new file of that name, which only its owner may open.
@@ -188,35 +159,27 @@ fn flush_folder(rt: &HostRuntime, name: &[u8]) {
 }
 
 // A new file beside the named one is filled and flushed, and then takes its name, so that whoever looks finds the old bytes or the new ones, whole. Where
-// that fails the new file goes again, and the old one stays; what failed is reported. The answer is whether nothing did.
-fn replace(rt: &HostRuntime, beside: &mut [u8], message: &[u8], bytes: &[u8]) -> bool
+// that fails the new file goes again, and the old one stays; what failed is reported.
+fn replace(rt: &HostRuntime, beside: &mut [u8], message: &[u8], bytes: &[u8]) -> Result<(), Told>
     requires { 6 ≤ length message.now }
 {
     let name = &message[6..];
-    let file = match create_beside(rt, beside) {
-        Ok(file) => file,
-        Err(error) => {
-            failed(rt, message, error);
-            return false;
-        }
-    };
+    let file = create_beside(rt, beside).map_err(|error| failed(rt, message, error))?;
     if let Err(error) = fill_and_rename(rt, file, beside, name, bytes) {
-        failed(rt, message, error);
+        let told = failed(rt, message, error);
         let _ = remove(rt, beside);
-        return false;
+        return Err(told);
     }
     flush_folder(rt, name);
-    true
+    Ok(())
 }
 
-// The file of that name holds these bytes; or it is as it was, and what failed is reported. The answer is whether it holds them.
-pub(crate) fn write_image(rt: &HostRuntime, word: usize, bytes: &[u8]) -> bool {
-    let mut text = name_room();
-    let end = put_name(rt, word, &mut text);
-    if end < 6 {
-        return false;
-    }
-    let mut beside = line_room();
-    let n = put_beside(&text[6..end], &mut beside);
-    replace(rt, &mut beside[..n], &text[..end], bytes)
+// The file of that name holds these bytes; or it is as it was, and what failed is reported.
+pub(crate) fn write_image(rt: &HostRuntime, word: usize, bytes: &[u8]) -> Result<(), Told> {
+    let mut text = [0; NAME];
+    let end = put_name(rt, word, &mut text)?;
+    let message = &text[..end];
+    let mut beside = [0; LINE];
+    let n = put_beside(&message[6..], &mut beside);
+    replace(rt, &mut beside[..n], message, bytes)
 }

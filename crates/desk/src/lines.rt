@@ -1,44 +1,39 @@
 // The text of a line: the ordinal, the kind, the answer byte, the draft number or a dash, and where it is asked for the reason.
 ghost use Rattle.std.specs.Prelude.{◌≡◌, cond, [], ◌+◌, ◌<◌, ◌≤◌, length};
 ghost use Rattle.desk.specs.Counts.{IsPrefixLen};
-ghost use Rattle.desk.specs.Lines.{hex_digit, middle_of, decimal, number_text, number_part, kind_part, reason_text, line_of, refused_text, rule_refused_text, Put};
+ghost use Rattle.desk.specs.Lines.{hex_digit, hex, middle_of, decimal, number_text, number_part, kind_part, reason_text, line_of, refused_text, rule_refused_text, Put};
 
-use crate::digits::decimal;
 use history::Answer;
+use itoa::Buffer;
 use reasons::Reason;
 
-fn wide(byte: u8) -> u32
-    ensures { (result ≡ byte) × (result < 256) }
-{
-    byte as u32
-}
-
-fn hex_digit(n: u32) -> u8
+fn hex_digit(n: u8) -> u8
     requires { n < 16 }
     ensures { result ≡ hex_digit n }
 {
-    if n < 10 { 48 + n as u8 } else { 55 + n as u8 }
+    if n < 10 { b'0' + n } else { b'A' + (n - 10) }
+}
+
+fn hex(byte: u8) -> [u8; 2]
+    ensures { result ≡ hex byte [] }
+{
+    [hex_digit(byte / 16), hex_digit(byte % 16)]
 }
 
 // As in ` 13 C8 `: two bytes in hex, with the spaces around them.
-fn middle(kind: u32, byte: u32) -> [u8; 7]
-    requires { (kind < 256) × (byte < 256) }
+fn middle(kind: u8, byte: u8) -> [u8; 7]
     ensures { result ≡ middle_of kind byte }
 {
-    let a = hex_digit(kind / 16);
-    let b = hex_digit(kind % 16);
-    let c = hex_digit(byte / 16);
-    let d = hex_digit(byte % 16);
+    let [a, b] = hex(kind);
+    let [c, d] = hex(byte);
     [b' ', a, b, b' ', c, d, b' ']
 }
 
 // As in ` 45`: the kind of a record.
-fn kind_part(kind: u32) -> [u8; 3]
-    requires { kind < 256 }
+fn kind_part(kind: u8) -> [u8; 3]
     ensures { result ≡ kind_part kind }
 {
-    let a = hex_digit(kind / 16);
-    let b = hex_digit(kind % 16);
+    let [a, b] = hex(kind);
     [b' ', a, b]
 }
 
@@ -52,44 +47,45 @@ pub(crate) fn append(out: &mut [u8], at: usize, text: &[u8]) -> usize
     end
 }
 
+#[tactic(auto, using(crate::proofs::Decimal::decimal_is))]
 fn put_decimal(n: u64, out: &mut [u8], at: usize) -> usize
     requires { at + 20 ≤ length out.old }
-    ensures { Put out.old at (decimal n) result out.new }
+    ensures put { Put out.old at (decimal n) result out.new }
+    ensures short { result ≤ at + 20 }
 {
-    let mut digits = [0u8; 20];
-    let k = decimal(n, &mut digits);
-    append(out, at, &digits[..k])
+    append(out, at, Buffer::new().format(n).as_bytes())
 }
 
 fn put_number(answer: Answer, out: &mut [u8], at: usize) -> usize
     requires { at + 20 ≤ length out.old }
-    ensures { Put out.old at (number_text answer) result out.new }
+    ensures put { Put out.old at (number_text answer) result out.new }
+    ensures short { result ≤ at + 20 }
 {
     match answer {
-        Answer::Granted => append(out, at, b"-"),
-        Answer::Numbered(number) => put_decimal(number as u64, out, at),
-        Answer::Refused(_) => append(out, at, b"-"),
+        Answer::Numbered(number) => put_decimal(u64::from(number), out, at),
+        Answer::Granted | Answer::Refused(_) => append(out, at, b"-"),
     }
 }
 
 fn put_part(n: u32, out: &mut [u8], at: usize) -> usize
     requires { at + 21 ≤ length out.old }
-    ensures { Put out.old at (number_part n) result out.new }
+    ensures put { Put out.old at (number_part n) result out.new }
+    ensures short { result ≤ at + 21 }
 {
     let a = append(out, at, b" ");
-    put_decimal(n as u64, out, a)
+    put_decimal(u64::from(n), out, a)
 }
 
 fn put_reason(why: bool, reason: Reason, out: &mut [u8], at: usize) -> usize
     requires { at + 87 ≤ length out.old }
-    ensures { Put out.old at (cond why (reason_text reason) []) result out.new }
+    ensures put { Put out.old at (cond why (reason_text reason) []) result out.new }
+    ensures short { result ≤ at + 87 }
 {
     if !why {
         return at;
     }
-    let a = put_part(wide(reason.number), out, at);
-    let kind = kind_part(wide(reason.kind));
-    let b = append(out, a, &kind);
+    let a = put_part(u32::from(reason.number), out, at);
+    let b = append(out, a, &kind_part(reason.kind));
     let c = put_part(reason.id, out, b);
     let d = put_part(reason.held, out, c);
     put_part(reason.wanted, out, d)
@@ -109,8 +105,7 @@ pub(crate) fn line(
 {
     let a = put_decimal(ordinal, out, at);
     let byte = history::answer_byte(answer);
-    let mid = middle(wide(kind), wide(byte));
-    let b = append(out, a, &mid);
+    let b = append(out, a, &middle(kind, byte));
     let c = put_number(answer, out, b);
     let d = put_reason(why, reason, out, c);
     append(out, d, b"\n")
@@ -123,7 +118,7 @@ pub(crate) fn refused(number: u8, out: &mut [u8], at: usize) -> usize
     ensures prefix_len { IsPrefixLen result out.new }
 {
     let a = append(out, at, b": refused ");
-    let b = put_decimal(number as u64, out, a);
+    let b = put_decimal(u64::from(number), out, a);
     append(out, b, b"\n")
 }
 
@@ -134,6 +129,6 @@ pub(crate) fn rule_refused(rule: u32, number: u8, out: &mut [u8]) -> usize
     ensures prefix_len { IsPrefixLen result out.new }
 {
     let a = append(out, 0, b"desk: --rule ");
-    let b = put_decimal(rule as u64, out, a);
+    let b = put_decimal(u64::from(rule), out, a);
     refused(number, out, b)
 }

@@ -2,7 +2,6 @@
 #![tactic(auto)]
 
 mod answers;
-mod digits;
 mod files;
 mod lines;
 mod names;
@@ -20,7 +19,6 @@ ghost use Rattle.desk.specs.Opened.{file_by, JustOpened};
 ghost use Rattle.desk.specs.Turns.{LedTo};
 
 use arguments::Arguments;
-use files::Got;
 use history::Answer;
 use image::Written;
 use kept::Log;
@@ -29,34 +27,25 @@ use records::{Cells, Rule};
 use std::env::{Env, FillError};
 use std::io::Read;
 use std::process::ExitCode;
-use told::{failed, tell};
+use told::{Told, failed, tell};
 
-// What one read of the input gives; no bytes at its end.
-fn read_piece(rt: &HostRuntime, buf: &mut [u8]) -> Got
+// How many bytes one read of the input gives; none at its end.
+fn read_piece(rt: &HostRuntime, buf: &mut [u8]) -> Result<usize, Told>
     ensures { Within result buf.new }
 {
-    match rt.stdin().read(buf) {
-        Ok(got) => Got::Bytes(got),
-        Err(error) => {
-            failed(rt, b"desk: standard input", error);
-            Got::Failed
-        }
-    }
+    rt.stdin()
+        .read(buf)
+        .map_err(|error| failed(rt, b"desk: standard input", error))
 }
 
-// The answer is whether all of the text was written; where it was not, that is told.
-fn print_text(rt: &HostRuntime, text: &[u8]) -> bool {
-    match rt.write_all(text) {
-        Ok(()) => true,
-        Err(error) => {
-            failed(rt, b"desk: standard output", error);
-            false
-        }
-    }
+// All of the text was written; or that is told.
+fn print_text(rt: &HostRuntime, text: &[u8]) -> Result<(), Told> {
+    rt.write_all(text)
+        .map_err(|error| failed(rt, b"desk: standard output", error))
 }
 
 // The loop only reads, has each piece answered and writes its text: what is printed, what waits and whether to go on is decided in `answer_piece`.
-// No contract can say what is read and written, so the lines that do it are trusted, and tested by runs. The answer is whether no read or write failed.
+// No contract can say what is read and written, so the lines that do it are trusted, and tested by runs. The first read or write that fails ends it.
 //
 // Every proved loop ends, so this one has a number of turns, 2 ^ 50, which also keeps each ordinal within 64 bits. After that many reads (35 years, at
 // a microsecond each) the program ends as it stands: the lines of all whole requests read are written, what waits is not answered, and no C2 is printed.
@@ -70,61 +59,41 @@ fn run(
     rule: Rule,
     buf: &mut [u8],
     out: &mut [u8],
-) -> bool
+) -> Result<(), Told>
     requires just_opened { JustOpened rule (shown base.old log.old current.old last.old) }
     requires buf_len { (length buf.old ≡ 1024) × (length out.old ≡ 139264) }
     ensures { LedTo rule why (shown base.old log.old current.old last.old) (shown base.new log.new current.new last.new) }
 {
-    let mut ordinal: u64 = 1;
-    let mut have: usize = 0;
-    let mut turns: u64 = 1125899906842624;
-    while turns > 0 {
-        let Got::Bytes(got) = read_piece(rt, &mut buf[have..]) else {
-            return false;
-        };
+    let mut ordinal = 1;
+    let mut have = 0;
+    for turns in 0..1125899906842624u64 {
+        let got = read_piece(rt, &mut buf[have..])?;
         let turn = pieces::answer_piece(
             why, base, log, current, last, rule, ordinal, buf, have, got, out,
         );
-        let text = turn.text;
-        if !print_text(rt, &out[..text]) {
-            return false;
-        }
+        print_text(rt, &out[..turn.text])?;
         if !turn.onward {
-            return true;
+            return Ok(());
         }
         ordinal = turn.ordinal;
         have = turn.have;
-        turns -= 1;
     }
-    true
-}
-
-// Room for the lines of a piece of 1024 bytes: a request has one byte at least, and a line 136 at most.
-fn text_room() -> [u8; 139264]
-    ensures { 139264 ≡ length result }
-{
-    [0; 139264]
-}
-
-// Room for a word: Linux passes none that is longer.
-fn word_room() -> [u8; 131072]
-    ensures { 131072 ≡ length result }
-{
-    [0; 131072]
+    Ok(())
 }
 
 // The words behind the program's name, each taken in its turn: that these are the words is trusted, what they ask for is decided in `take_word`.
 // One that is too long for the buffer is read as an empty word: neither is an argument or a number, and of a name only the place is kept.
 fn words(rt: &HostRuntime) -> Arguments {
-    let mut taken = arguments::none();
-    let mut word = word_room();
+    let mut taken = Arguments::none();
+    // Linux passes no word that is longer.
+    let mut word = [0; 131072];
     for i in 1..usize::MAX {
         let n = match rt.arg(i, &mut word) {
             Ok(n) => n,
             Err(FillError::TooLong) => 0,
             Err(FillError::NotPresent) => break,
         };
-        taken = arguments::take_word(taken, i, &word[..n]);
+        taken = taken.take_word(i, &word[..n]);
     }
     taken
 }
@@ -141,45 +110,58 @@ fn image_of(current: &Cells, last: u32, rule: Rule, out: &mut [u8]) -> usize
     n
 }
 
-fn save_image(rt: &HostRuntime, word: usize, current: &Cells, last: u32, rule: Rule) -> bool {
+fn save_image(
+    rt: &HostRuntime,
+    word: usize,
+    current: &Cells,
+    last: u32,
+    rule: Rule,
+) -> Result<(), Told> {
     let mut image = [0u8; 4454];
     let n = image_of(current, last, rule, &mut image);
     files::write_image(rt, word, &image[..n])
 }
 
 // The input is answered, and the desk as it then stands is saved where that is asked for: also where a line could not be printed or a read failed, since
-// the numbers that were given may have been seen. The answer, as of all that serve, is whether nothing had to be told.
+// the numbers that were given may have been seen.
 fn answer(
     rt: &HostRuntime,
     why: bool,
-    save: usize,
+    save: Option<usize>,
     base: &mut Cells,
     log: &mut Log,
     current: &mut Cells,
     last: &mut u32,
     rule: Rule,
-) -> bool
+) -> Result<(), Told>
     requires { JustOpened rule (shown base.old log.old current.old last.old) }
 {
-    let mut buf = [0u8; 1024];
-    let mut out = text_room();
+    let mut buf = [0; 1024];
+    // Room for the lines of a piece of 1024 bytes: a request has one byte at least, and a line 136 at most.
+    let mut out = [0; 139264];
     let answered = run(rt, why, base, log, current, last, rule, &mut buf, &mut out);
-    if save == 0 {
+    let Some(save) = save else {
         return answered;
-    }
+    };
     let saved = save_image(rt, save, current, *last, rule);
-    answered && saved
+    answered.and(saved)
 }
 
 // One line, where the rule's number is none.
-fn tell_rule(rt: &HostRuntime, rule: u32, number: u8) {
-    let mut line = [0u8; 64];
+fn tell_rule(rt: &HostRuntime, rule: u32, number: u8) -> Told {
+    let mut line = [0; 64];
     let n = lines::rule_refused(rule, number, &mut line);
-    tell(rt, &line[..n]);
+    tell(rt, &line[..n])
 }
 
 // A desk without records, with the last number already used, under the rule of that number. Where that is refused it is told, and nothing is answered.
-fn serve_new(rt: &HostRuntime, why: bool, save: usize, number: u32, rule_number: u32) -> bool {
+fn serve_new(
+    rt: &HostRuntime,
+    why: bool,
+    save: Option<usize>,
+    number: u32,
+    rule_number: u32,
+) -> Result<(), Told> {
     let opened = history::open(number, rule_number);
     let answered = opened.answer;
     let desk = opened.desk;
@@ -199,19 +181,9 @@ fn serve_new(rt: &HostRuntime, why: bool, save: usize, number: u32, rule_number:
             &mut last,
             rule,
         ),
-        Answer::Numbered(_) => true,
-        Answer::Refused(n) => {
-            tell_rule(rt, rule_number, n);
-            false
-        }
+        Answer::Numbered(_) => Ok(()),
+        Answer::Refused(n) => Err(tell_rule(rt, rule_number, n)),
     }
-}
-
-// One byte more than a file may have that is tried as an image.
-fn image_room() -> [u8; 65537]
-    ensures { 65537 ≡ length result }
-{
-    [0; 65537]
 }
 
 fn open_file(
@@ -233,11 +205,10 @@ fn open_file(
 }
 
 // The desk of an image. What is refused is told, and nothing is answered: the numbers of the empty desk would start again.
-fn serve_image(rt: &HostRuntime, why: bool, save: usize, from: usize) -> bool {
-    let mut image = image_room();
-    let Got::Bytes(n) = files::read_image(rt, from, &mut image) else {
-        return false;
-    };
+fn serve_image(rt: &HostRuntime, why: bool, save: Option<usize>, from: usize) -> Result<(), Told> {
+    // One byte more than a file may have that is tried as an image.
+    let mut image = [0; 65537];
+    let n = files::read_image(rt, from, &mut image)?;
     let empty = history::open(0, 1);
     let desk = empty.desk;
     let mut base = desk.base;
@@ -258,41 +229,36 @@ fn serve_image(rt: &HostRuntime, why: bool, save: usize, from: usize) -> bool {
             &mut last,
             rule,
         ),
-        Opening::Refused(number) => {
-            files::tell_refused(rt, from, number);
-            false
-        }
+        Opening::Refused(number) => Err(files::tell_refused(rt, from, number)),
     }
 }
 
-fn serve(rt: &HostRuntime) -> bool {
+fn serve(rt: &HostRuntime) -> Result<(), Told> {
     let arguments = words(rt);
-    if arguments::wrong(arguments) {
-        tell(
+    if arguments.is_wrong() {
+        return Err(tell(
             rt,
             b"desk: usage: desk [--last N | --from IMAGE] [--rule R] [--save IMAGE] [--why] <requests >lines\n",
-        );
-        return false;
+        ));
     }
     let why = arguments.why;
     let save = arguments.save;
-    if arguments.from != 0 {
-        return serve_image(rt, why, save, arguments.from);
+    if let Some(from) = arguments.from {
+        return serve_image(rt, why, save, from);
     }
     serve_new(
         rt,
         why,
         save,
-        arguments::last_number(arguments),
-        arguments::rule_number(arguments),
+        arguments.last_number(),
+        arguments.rule_number(),
     )
 }
 
 // The status is 1 where standard error has a line.
 fn main(rt: HostRuntime) -> ExitCode {
-    if serve(&rt) {
-        ExitCode::SUCCESS
-    } else {
-        ExitCode::FAILURE
+    match serve(&rt) {
+        Ok(()) => ExitCode::SUCCESS,
+        Err(Told) => ExitCode::FAILURE,
     }
 }

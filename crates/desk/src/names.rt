@@ -7,18 +7,15 @@ ghost use Rattle.desk.specs.Names.{folder_length, beside_name};
 use crate::lines::append;
 
 // How many bytes of a name are its folder, with the `/` behind it; 0 where it names none.
+#[tactic(auto, using(crate::proofs::Folders::none_left))]
 pub(crate) fn folder_length(name: &[u8]) -> usize
     ensures value { result ≡ folder_length name.now }
     ensures prefix_len { IsPrefixLen result name.now }
 {
-    let mut i = name.len();
-    while 0 < i {
-        if name[i - 1] == b'/' {
-            return i;
-        }
-        i -= 1;
+    match name.iter().rposition(|byte| *byte == b'/') {
+        Some(i) => i + 1,
+        None => 0,
     }
-    0
 }
 
 // The name of a new file beside it, with six letters at its end for which `put_letters` puts others.
@@ -50,10 +47,8 @@ pub(crate) fn put_letters(random: [u8; 6], name: &mut [u8])
     ensures front { take (length name.old - 6) name.new ≡ take (length name.old - 6) name.old }
     ensures letters { (k : ℕ) → length name.old ≤ k + 6 → k < length name.old → slice_index name.new k ≢ 47 }
 {
-    let mut i = 0;
-    while i < 6 && i < name.len() {
-        let at = name.len() - 1 - i;
-        name[at] = letter(random[i]);
-        i += 1;
-    }
+    let letters = random.map(letter);
+    let n = name.len().min(6);
+    let front = name.len() - n;
+    name[front..].copy_from_slice(&letters[..n]);
 }

@@ -21,13 +21,8 @@ fn keep(buf: &mut [u8], from: usize, to: usize) -> usize
     requires { (from ≤ to) × (to ≤ length buf.old) }
     ensures { (result ≡ to - from) × (take result buf.new ≡ take result (drop from buf.old)) }
 {
-    let n = to - from;
-    let mut i = 0;
-    while i < n {
-        buf[i] = buf[from + i];
-        i += 1;
-    }
-    n
+    buf.copy_within(from..to, 0);
+    to - from
 }
 
 // The first `have` bytes of buf wait, and `got` bytes were read behind them; none were read where the input has ended.

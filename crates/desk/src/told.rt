@@ -11,12 +11,17 @@ pub(crate) const NO_TEXT: i32 = 84;
 
 pub(crate) const TAKEN: i32 = 17;
 
-pub(crate) fn tell(rt: &HostRuntime, text: &[u8]) {
+// Something failed or was refused, and standard error has a line that says so.
+#[derive(Clone, Copy)]
+pub(crate) struct Told;
+
+pub(crate) fn tell(rt: &HostRuntime, text: &[u8]) -> Told {
     let _ = rt.stderr().write_all(text);
+    Told
 }
 
 // The system's reason for an error. The library puts the error's number behind it, which is not told.
-fn tell_reason(rt: &HostRuntime, error: Error) {
+fn tell_reason(rt: &HostRuntime, error: Error) -> Told {
     let Ok(reason) = format!(in rt.alloc(); "{error}") else {
         return tell(rt, b"Cannot allocate memory");
     };
@@ -27,11 +32,11 @@ fn tell_reason(rt: &HostRuntime, error: Error) {
 }
 
 // A line: what failed, as the caller names it, and why.
-pub(crate) fn failed(rt: &HostRuntime, what: &[u8], error: Error) {
+pub(crate) fn failed(rt: &HostRuntime, what: &[u8], error: Error) -> Told {
     tell(rt, what);
     tell(rt, b": ");
     tell_reason(rt, error);
-    tell(rt, b"\n");
+    tell(rt, b"\n")
 }
 
 // Why a word could not be read.

@@ -3,79 +3,28 @@
 // The line written has the name, the stop, the request bytes used, the answer bytes written, the last number then, and every byte of the answer room.
 #![tactic(auto)]
 
-ghost use Rattle.std.specs.Prelude.{◌≡◌, ◌<◌, ◌≤◌, length, IfOk};
+ghost use Rattle.std.specs.Prelude.{◌<◌, ◌≤◌};
 
-use kept::Log;
-use records::{Cells, Rule};
+use history::LentDesk;
 use std::io;
 use std::io::{Read, Write};
 
 // ---- what is written
-fn say<W: Write>(out: &mut W, text: &[u8]) -> io::Result<()> {
-    out.write_all(text)
-}
-
-fn number<W: Write>(out: &mut W, n: u64) -> io::Result<()> {
-    write!(out, " {n}")
-}
-
-fn byte<W: Write>(out: &mut W, b: u8) -> io::Result<()> {
-    write!(out, "{b:02x}")
-}
-
 fn bytes<W: Write>(out: &mut W, answers: &[u8]) -> io::Result<()> {
-    for b in answers {
-        byte(out, *b)?;
+    for byte in answers {
+        write!(out, "{byte:02x}")?;
     }
     Ok(())
 }
 
 fn answer_room<W: Write>(out: &mut W, answers: &[u8]) -> io::Result<()> {
-    say(out, b" ")?;
-    if answers.len() == 0 {
-        return say(out, b"-");
+    if answers.is_empty() {
+        return out.write_all(b"-");
     }
     bytes(out, answers)
 }
 
 // ---- what is read
-// The first place from `from` on that has this mark, or the end of the text.
-fn end_at(text: &[u8], from: usize, mark: u8) -> usize
-    requires { from ≤ length text.now }
-    ensures { (from ≤ result) × (result ≤ length text.now) }
-{
-    let mut i = from;
-    while i < text.len() {
-        if text[i] == mark {
-            return i;
-        }
-        i += 1;
-    }
-    i
-}
-
-// A line's first field.
-fn first(line: &[u8]) -> &[u8] {
-    let end = end_at(line, 0, b' ');
-    &line[..end]
-}
-
-// The fields behind the first.
-fn behind(line: &[u8]) -> &[u8] {
-    let end = end_at(line, 0, b' ');
-    if end < line.len() {
-        return &line[end + 1..];
-    }
-    &line[end..]
-}
-
-fn starts(text: &[u8], mark: u8) -> bool {
-    if text.len() == 0 {
-        return false;
-    }
-    text[0] == mark
-}
-
 // A number that has no room for one more digit stays.
 fn with_digit(n: u64, digit: u8) -> u64 {
     if n < 1_000_000_000_000_000_000 {
@@ -85,187 +34,95 @@ fn with_digit(n: u64, digit: u8) -> u64 {
 }
 
 fn decimal(word: &[u8]) -> u64 {
-    let mut n: u64 = 0;
-    for digit in word {
-        n = with_digit(n, *digit);
-    }
-    n
-}
-
-fn at_most(room: u64) -> usize
-    ensures { result ≤ 4096 }
-{
-    if room < 4096 { room as usize } else { 4096 }
+    word.iter().fold(0, |n, digit| with_digit(n, *digit))
 }
 
 fn value(digit: u8) -> u8
     ensures { result < 16 }
 {
+    // 0 to 9; A to F, a to f
     if digit < 58 {
-        return digit % 16; // 0 to 9
+        digit % 16
+    } else {
+        (digit - 55) % 16
     }
-    (digit % 16 + 9) % 16 // A to F, a to f
 }
 
-// Puts a digit behind those there are, and says how many they are then; `_` is none.
-fn put_digit(out: &mut [u8], digits: usize, digit: u8) -> usize
-    requires { digits ≤ 8192 }
-    ensures { result ≤ 8192 }
-{
-    let at = digits / 2;
-    if digit == b'_' {
-        return digits;
+// The bytes that a word shows in hex, as many as there is room for; `_` is no digit.
+fn hex<'a>(word: &[u8], room: &'a mut [u8]) -> &'a [u8] {
+    let mut digits = word.iter().filter(|digit| **digit != b'_');
+    for n in 0..room.len() {
+        let (Some(high), Some(low)) = (digits.next(), digits.next()) else {
+            return &room[..n];
+        };
+        room[n] = value(*high) * 16 + value(*low);
     }
-    if 8191 < digits {
-        return digits;
-    }
-    if out.len() <= at {
-        return digits;
-    }
-    out[at] = out[at] % 16 * 16 + value(digit);
-    digits + 1
-}
-
-// Puts the bytes that a word shows in hex, and says how many they are.
-fn hex(word: &[u8], out: &mut [u8]) -> usize
-    ensures { result ≤ 4096 }
-{
-    let mut digits: usize = 0;
-    for digit in word {
-        digits = put_digit(out, digits, *digit);
-    }
-    digits / 2
+    room
 }
 
 // ---- a case
-// The rule's number, behind the `/` of the field LAST, which is at `end`; 1 where there is none.
-fn rule_number(word: &[u8], end: usize) -> u32 {
-    if end < word.len() {
-        return (decimal(&word[end + 1..]) % 4_294_967_296) as u32;
+// The field LAST: a desk opened with that number, and under the rule behind the `/`, which is 1 where there is none. A `+` leaves the desk as it is.
+fn open_anew(word: &[u8], desk: &mut LentDesk) {
+    if word.starts_with(b"+") {
+        return;
     }
-    1
+    let mut numbers = word.splitn(2, |byte| *byte == b'/');
+    let last = decimal(numbers.next().unwrap_or_default());
+    let rule = numbers.next().map_or(1, decimal);
+    let anew = history::open(low_word(last), low_word(rule)).desk;
+    *desk.base = anew.base;
+    *desk.log = anew.log;
+    *desk.current = anew.current;
+    *desk.last = anew.last;
+    desk.rule = anew.rule;
 }
 
-// The field LAST: a desk opened with that number, and under that rule, which is the answer. A `+` leaves the desk as it is.
-fn open_anew(
-    word: &[u8],
-    base: &mut Cells,
-    log: &mut Log,
-    current: &mut Cells,
-    last: &mut u32,
-    rule: Rule,
-) -> Rule {
-    if starts(word, b'+') {
-        return rule;
-    }
-    let end = end_at(word, 0, b'/');
-    let number = (decimal(&word[..end]) % 4_294_967_296) as u32;
-    let opened = history::open(number, rule_number(word, end));
-    let desk = opened.desk;
-    let empty = desk.base;
-    let none = desk.log;
-    let same = desk.current;
-    *base = empty;
-    *log = none;
-    *current = same;
-    *last = desk.last;
-    desk.rule
+fn low_word(n: u64) -> u32 {
+    (n % 4_294_967_296) as u32
 }
 
 // Runs the batch, and writes what it left.
 fn run_batch<W: Write>(
     out: &mut W,
-    base: &mut Cells,
-    log: &mut Log,
-    current: &mut Cells,
-    last: &mut u32,
-    rule: Rule,
+    desk: &mut LentDesk,
     requests: &[u8],
     answers: &mut [u8],
     place: usize,
 ) -> io::Result<()> {
-    let ran = batch::run(base, log, current, last, rule, requests, answers, place);
-    let stop = ran.stop;
-    number(out, batch::stop_number(stop) as u64)?;
-    number(out, ran.used as u64)?;
-    number(out, ran.written as u64)?;
-    number(out, *last as u64)?;
+    let ran = batch::run(desk, requests, answers, place);
+    let stop = batch::stop_number(ran.stop);
+    write!(out, " {stop} {} {} {} ", ran.used, ran.written, *desk.last)?;
     answer_room(out, answers)
 }
 
-// The fields ROOM, PLACE and REQUESTS. Of more than 4,096 bytes the first are taken.
-fn run_fields<W: Write>(
-    out: &mut W,
-    fields: &[u8],
-    base: &mut Cells,
-    log: &mut Log,
-    current: &mut Cells,
-    last: &mut u32,
-    rule: Rule,
-) -> io::Result<()> {
-    let behind_room = behind(fields);
-    let mut requests = [0u8; 4096];
-    let n = hex(first(behind(behind_room)), &mut requests);
+// An empty line, and one that starts with `#`, is no case. Of more than 4,096 bytes the first are taken.
+fn case<W: Write>(out: &mut W, line: &[u8], desk: &mut LentDesk) -> io::Result<()> {
+    if line.is_empty() || line.starts_with(b"#") {
+        return Ok(());
+    }
+    let mut fields = line.split(|byte| *byte == b' ');
+    out.write_all(fields.next().unwrap_or_default())?;
+    open_anew(fields.next().unwrap_or_default(), desk);
+    let size = decimal(fields.next().unwrap_or_default()).min(4096) as usize;
+    let place = decimal(fields.next().unwrap_or_default()) as usize;
+    let mut room = [0u8; 4096];
+    let requests = hex(fields.next().unwrap_or_default(), &mut room);
     let mut answers = [0xEEu8; 4096];
-    let size = at_most(decimal(first(fields)));
-    let place = decimal(first(behind_room)) as usize;
-    run_batch(
-        out,
-        base,
-        log,
-        current,
-        last,
-        rule,
-        &requests[..n],
-        &mut answers[..size],
-        place,
-    )
+    run_batch(out, desk, requests, &mut answers[..size], place)?;
+    out.write_all(b"\n")
 }
 
-// An empty line, and one that starts with `#`, is no case. The answer is the desk's rule, for the case behind this one.
-fn case<W: Write>(
-    out: &mut W,
-    line: &[u8],
-    base: &mut Cells,
-    log: &mut Log,
-    current: &mut Cells,
-    last: &mut u32,
-    rule: Rule,
-) -> io::Result<Rule> {
-    if line.len() == 0 {
-        return Ok(rule);
-    }
-    if starts(line, b'#') {
-        return Ok(rule);
-    }
-    let behind_name = behind(line);
-    let opened = open_anew(first(behind_name), base, log, current, last, rule);
-    say(out, first(line))?;
-    run_fields(out, behind(behind_name), base, log, current, last, opened)?;
-    say(out, b"\n")?;
-    Ok(opened)
-}
-
-// The desk's parts are lent to each case, so that no table is copied.
 fn cases<W: Write>(out: &mut W, input: &[u8]) -> io::Result<()> {
-    let mut base = [0u32; 1858];
-    let mut log = [0u8; 418];
-    let mut current = [0u32; 1858];
-    let mut last: u32 = 0;
-    let mut rule = Rule::One;
-    let mut at: usize = 0;
-    while at < input.len() {
-        let end = end_at(input, at, b'\n');
-        rule = case(
-            out,
-            &input[at..end],
-            &mut base,
-            &mut log,
-            &mut current,
-            &mut last,
-            rule,
-        )?;
-        at = end + 1;
+    let mut desk = history::open(0, 1).desk;
+    let mut lent = LentDesk {
+        base: &mut desk.base,
+        log: &mut desk.log,
+        current: &mut desk.current,
+        last: &mut desk.last,
+        rule: desk.rule,
+    };
+    for line in input.split(|byte| *byte == b'\n') {
+        case(out, line, &mut lent)?;
     }
     Ok(())
 }
@@ -274,92 +131,42 @@ fn cases<W: Write>(out: &mut W, input: &[u8]) -> io::Result<()> {
 // The stop of a batch over these bytes, 0 to 13.
 fn stop_of(requests: &[u8]) -> u8 {
     let mut answers = [0u8; 5];
-    let opened = history::open(0, 1);
-    let desk = opened.desk;
-    let ran = batch::run_desk(desk, requests, &mut answers, 0);
-    let report = ran.ran;
-    let stop = report.stop;
-    batch::stop_number(stop)
-}
-
-// Whether the batch stops as unknown at this kind.
-fn unknown(kind: u32) -> u32
-    ensures { result ≤ 1 }
-{
-    let frame = [(kind % 256) as u8];
-    if stop_of(&frame) == 1 { 1 } else { 0 }
+    let ran = batch::run_desk(history::open(0, 1).desk, requests, &mut answers, 0);
+    batch::stop_number(ran.ran.stop)
 }
 
 // Whether the first n bytes of a frame of this kind stop the batch as cut.
-fn cut_at(kind: u32, n: usize) -> u32
+fn is_cut(kind: u8, n: usize) -> bool
     requires { n ≤ 9 }
-    ensures { result ≤ 1 }
 {
-    let frame = [(kind % 256) as u8, 0, 0, 0, 0, 0, 0, 0, 0];
-    if stop_of(&frame[..n]) == 2 { 1 } else { 0 }
+    let frame = [kind, 0, 0, 0, 0, 0, 0, 0, 0];
+    stop_of(&frame[..n]) == 2
 }
 
 // How many beginnings of a frame of this kind stop the batch as cut.
-fn cuts(kind: u32) -> u32
-    ensures { result ≤ 9 }
-{
-    let mut found: u32 = 0;
-    'starts: for n in 1..10 {
-        found += cut_at(kind, n);
-    }
-    found
+fn cuts(kind: u8) -> usize {
+    (1..10).filter(|n| is_cut(kind, *n)).count()
 }
 
-fn all_unknown() -> u32 {
-    let mut found: u32 = 0;
-    'kinds: for kind in 0..256 {
-        found += unknown(kind);
-    }
-    found
+fn all_unknown() -> usize {
+    (0..=255u8).filter(|kind| stop_of(&[*kind]) == 1).count()
 }
 
-fn all_cuts() -> u32 {
-    let mut found: u32 = 0;
-    'kinds: for kind in 0..256 {
-        found += cuts(kind);
-    }
-    found
+fn all_cuts() -> usize {
+    (0..=255u8).fold(0, |found, kind| cuts(kind).saturating_add(found))
 }
 
 fn every_kind<W: Write>(out: &mut W) -> io::Result<()> {
-    say(out, b"unknown-kinds")?;
-    number(out, all_unknown() as u64)?;
-    say(out, b"\ncut-frames")?;
-    number(out, all_cuts() as u64)?;
-    say(out, b"\n")
+    writeln!(out, "unknown-kinds {}", all_unknown())?;
+    writeln!(out, "cut-frames {}", all_cuts())
 }
 
 // ---- the input
-fn input_room() -> [u8; 65536]
-    ensures { 65536 ≡ length result }
-{
-    [0; 65536]
-}
-
-// What stands at the front of the input, as much as there is room for; the answer is how much.
-fn read_input(rt: &HostRuntime, input: &mut [u8]) -> io::Result<usize>
-    ensures { IfOk result (λ n. n ≤ length input.new) }
-{
-    let mut have: usize = 0;
-    while have < input.len() {
-        let got = rt.stdin().read(&mut input[have..])?;
-        if got == 0 {
-            break;
-        }
-        have += got;
-    }
-    Ok(have)
-}
-
+// As much of it as there is room for is read.
 fn main(rt: HostRuntime) -> io::Result<()> {
-    let mut input = input_room();
-    let n = read_input(&rt, &mut input)?;
+    let mut input = [0u8; 65536];
+    let n = io::copy(&mut rt.stdin().take(65536), &mut &mut input[..])? as usize;
     let mut out = io::writer(&rt);
-    cases(&mut out, &input[..n])?;
+    cases(&mut out, &input[..n.min(65536)])?;
     every_kind(&mut out)
 }

@@ -6,6 +6,7 @@ ghost use Rattle.records.specs.House.{view, empty_house};
 ghost use Rattle.kept.specs.Log.{past};
 ghost use Rattle.history.specs.Machine.{opened, outcome, keep_change, take_back, issued, ruled, step};
 ghost use Rattle.effects.specs.Effects.{change_of};
+ghost use Rattle.history.specs.Lent.{lent, SameParts};
 ghost use Rattle.history.specs.Desk.{shown, desk_rules, opens, opened_under, verdict_of, settled, answer_byte};
 ghost use Rattle.counter.specs.Numbers.{next_after};
 
@@ -87,79 +88,75 @@ fn settle(base: &mut Cells, log: &Log)
     kept::redo(base, log, 0);
 }
 
-fn make(base: &mut Cells, log: &mut Log, current: &mut Cells, request: Request, number: u32)
-    ensures { (rule : Rule) (n m : ℕ) → shown base.new log.new current.new n ≡ keep_change (desk_rules rule) (shown base.old log.old current.old m) (change_of request number) n }
-{
-    effects::apply(current, request, number);
-    settle(base, log);
-    kept::push(log, Change { request, number });
+// A desk whose parts are lent one by one, as a caller in C lends them: no table is copied. Each call leaves the parts in their places.
+#[derive(Drop)]
+pub struct LentDesk<'a> {
+    pub base: &'a mut Cells,
+    pub log: &'a mut Log,
+    pub current: &'a mut Cells,
+    pub last: &'a mut u32,
+    pub rule: Rule,
 }
 
-// The counter is stepped only where a number is left, and it never goes back.
-fn make_numbered(
-    base: &mut Cells,
-    log: &mut Log,
-    current: &mut Cells,
-    last: &mut u32,
-    request: Request,
-) -> Answer
-    ensures { (rule : Rule) → outcome (shown base.new log.new current.new last.new) result ≡ issued (desk_rules rule) (shown base.old log.old current.old last.old) (change_of request) (next_after last.old) }
-{
-    let issued = counter::issue_from(*last);
-    let Some(number) = issued.next else {
-        return Answer::Refused(11);
-    };
-    *last = issued.last;
-    make(base, log, current, request, number);
-    Answer::Numbered(number)
-}
-
-fn take_back(base: &Cells, log: &mut Log, current: &mut Cells) -> Answer
-    ensures { (rule : Rule) (last : ℕ) → outcome (shown base.now log.new current.new last) result ≡ take_back (desk_rules rule) (shown base.now log.old current.old last) }
-{
-    if kept::kept_count(log) == 0 {
-        return Answer::Refused(12);
+impl<'a> LentDesk<'a> {
+    // The change is made and kept.
+    fn make(&mut self, request: Request, number: u32)
+        ensures parts { SameParts self.old self.new }
+        ensures done { (rule : Rule) → lent self.new ≡ keep_change (desk_rules rule) (lent self.old) (change_of request number) self.old.last.now }
+    {
+        effects::apply(self.current, request, number);
+        settle(self.base, self.log);
+        kept::push(self.log, Change { request, number });
     }
-    kept::pop(log);
-    kept::replay(base, log, current);
-    Answer::Granted
-}
 
-// A request that is judged already: refused, passed, made and kept, or taken back, which is the same by either rule. Only a take-back copies records.
-pub fn act(
-    base: &mut Cells,
-    log: &mut Log,
-    current: &mut Cells,
-    last: &mut u32,
-    request: Request,
-    ruling: Result<Grant, Reason>,
-) -> Answer
-    ensures { (rule : Rule) → outcome (shown base.new log.new current.new last.new) result ≡ ruled (desk_rules rule) (shown base.old log.old current.old last.old) (verdict_of request ruling) }
-{
-    match ruling {
-        Err(reason) => Answer::Refused(reason.number),
-        Ok(Grant::Pass) => Answer::Granted,
-        Ok(Grant::Keep) => {
-            make(base, log, current, request, 0);
-            Answer::Granted
+    // The counter is stepped only where a number is left, and it never goes back.
+    fn make_numbered(&mut self, request: Request) -> Answer
+        ensures parts { SameParts self.old self.new }
+        ensures done { (rule : Rule) → outcome (lent self.new) result ≡ issued (desk_rules rule) (lent self.old) (change_of request) (next_after self.old.last.now) }
+    {
+        let Some(number) = counter::issue_from(self.last) else {
+            return Answer::Refused(11);
+        };
+        self.make(request, number);
+        Answer::Numbered(number)
+    }
+
+    fn take_back(&mut self) -> Answer
+        ensures parts { SameParts self.old self.new }
+        ensures done { (rule : Rule) → outcome (lent self.new) result ≡ take_back (desk_rules rule) (lent self.old) }
+    {
+        if kept::kept_count(self.log) == 0 {
+            return Answer::Refused(12);
         }
-        Ok(Grant::KeepNumbered) => make_numbered(base, log, current, last, request),
-        Ok(Grant::TakeBack) => take_back(base, log, current),
+        kept::pop(self.log);
+        kept::replay(self.base, self.log, self.current);
+        Answer::Granted
     }
-}
 
-// One request, on any desk under the rule.
-#[tactic(auto, using(crate::proofs::Laws::taken_is))]
-pub fn take(
-    base: &mut Cells,
-    log: &mut Log,
-    current: &mut Cells,
-    last: &mut u32,
-    rule: Rule,
-    request: Request,
-) -> Answer
-    ensures { outcome (shown base.new log.new current.new last.new) result ≡ step (desk_rules rule) (shown base.old log.old current.old last.old) request }
-{
-    let ruling = judge::judge(current, rule, request);
-    act(base, log, current, last, request, ruling)
+    // A request that is judged already: refused, passed, made and kept, or taken back, which is the same by either rule. Only a take-back copies records.
+    pub fn act(&mut self, request: Request, ruling: Result<Grant, Reason>) -> Answer
+        ensures parts { SameParts self.old self.new }
+        ensures done { (rule : Rule) → outcome (lent self.new) result ≡ ruled (desk_rules rule) (lent self.old) (verdict_of request ruling) }
+    {
+        match ruling {
+            Err(reason) => Answer::Refused(reason.number),
+            Ok(Grant::Pass) => Answer::Granted,
+            Ok(Grant::Keep) => {
+                self.make(request, 0);
+                Answer::Granted
+            }
+            Ok(Grant::KeepNumbered) => self.make_numbered(request),
+            Ok(Grant::TakeBack) => self.take_back(),
+        }
+    }
+
+    // One request, by the desk's rule.
+    #[tactic(auto, using(crate::proofs::Laws::taken_is))]
+    pub fn take(&mut self, request: Request) -> Answer
+        ensures parts { SameParts self.old self.new }
+        ensures done { outcome (lent self.new) result ≡ step (desk_rules self.old.rule) (lent self.old) request }
+    {
+        let ruling = judge::judge(self.current, self.rule, request);
+        self.act(request, ruling)
+    }
 }

@@ -13,7 +13,7 @@ ghost use Rattle.why.specs.Explained.{refusal_of};
 ghost use Rattle.why.specs.Why.{reason_of_bytes};
 ghost use Rattle.house.specs.Calls.{held_rule, rule_number, left, as_opened, as_loaded, load_number, BatchCall, words, save_number, save_length};
 
-use history::Answer;
+use history::{Answer, LentDesk};
 use image::Written;
 use kept::Log;
 use opening::Opening;
@@ -116,8 +116,14 @@ pub fn desk_batch_parts(
 ) -> u32
     ensures { BatchCall (held_rule rule) (shown base.old log.old current.old last.old) requests.now answers.old place (shown base.new log.new current.new last.new) result used.new written.new answers.new }
 {
-    let held = rule_of(rule);
-    let ran = batch::run(base, log, current, last, held, requests, answers, place);
+    let mut desk = LentDesk {
+        base,
+        log,
+        current,
+        last,
+        rule: rule_of(rule),
+    };
+    let ran = batch::run(&mut desk, requests, answers, place);
     *used = ran.used;
     *written = ran.written;
     let stop = ran.stop;

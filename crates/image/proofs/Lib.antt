@@ -3,3 +3,4 @@ pub mod Puts
 pub mod Plans
 pub mod Lengths
 pub mod Ways
+pub mod Spelt

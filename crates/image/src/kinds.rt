@@ -7,22 +7,11 @@ ghost use Rattle.image.specs.Image.{counter_form, rule_form, user_form, room_for
 
 use records::{Draft, Script, Session, User};
 
-fn flag(yes: bool) -> u8
-    ensures { result ≡ as_number yes }
-{
-    if yes { 1 } else { 0 }
-}
-
 pub(crate) fn counter_bytes(last: u32) -> [u8; 5]
     ensures { result ≡ written counter_form 0 last }
 {
-    [
-        0x40,
-        (last / 16777216) as u8,
-        (last / 65536 % 256) as u8,
-        (last / 256 % 256) as u8,
-        (last % 256) as u8,
-    ]
+    let [a, b, c, d] = last.to_be_bytes();
+    [0x40, a, b, c, d]
 }
 
 pub(crate) fn rule_bytes() -> [u8; 1]
@@ -31,25 +20,29 @@ pub(crate) fn rule_bytes() -> [u8; 1]
     [0x46]
 }
 
+#[tactic(auto, using(crate::proofs::Spelt::high_byte))]
 pub(crate) fn user_bytes(i: u8, user: User) -> [u8; 15]
     ensures { result ≡ written user_form i user }
 {
+    let [high, low] = user.categories.to_be_bytes();
+    let [r1, r2, r3, r4] = user.rooms.to_be_bytes();
+    let [l1, l2, l3, l4] = user.leads.to_be_bytes();
     [
         0x41,
         i,
         user.sort,
         user.level,
-        (user.categories / 256) as u8,
-        (user.categories % 256) as u8,
-        (user.rooms / 16777216) as u8,
-        (user.rooms / 65536 % 256) as u8,
-        (user.rooms / 256 % 256) as u8,
-        (user.rooms % 256) as u8,
-        (user.leads / 16777216) as u8,
-        (user.leads / 65536 % 256) as u8,
-        (user.leads / 256 % 256) as u8,
-        (user.leads % 256) as u8,
-        flag(user.admin),
+        high,
+        low,
+        r1,
+        r2,
+        r3,
+        r4,
+        l1,
+        l2,
+        l3,
+        l4,
+        u8::from(user.admin),
     ]
 }
 
@@ -62,27 +55,22 @@ pub(crate) fn room_bytes(room: u8) -> [u8; 2]
 pub(crate) fn script_bytes(i: u8, script: Script) -> [u8; 6]
     ensures { result ≡ written script_form i script }
 {
-    [
-        0x43,
-        i,
-        script.level,
-        (script.categories / 256) as u8,
-        (script.categories % 256) as u8,
-        script.origin,
-    ]
+    let [high, low] = script.categories.to_be_bytes();
+    [0x43, i, script.level, high, low, script.origin]
 }
 
 pub(crate) fn session_bytes(i: u8, session: Session) -> [u8; 8]
     ensures { result ≡ written session_form i session }
 {
+    let [high, low] = session.categories.to_be_bytes();
     [
         0x44,
         i,
         session.owner,
         session.level,
-        (session.categories / 256) as u8,
-        (session.categories % 256) as u8,
-        flag(session.writes),
+        high,
+        low,
+        u8::from(session.writes),
         session.place,
     ]
 }
@@ -90,16 +78,7 @@ pub(crate) fn session_bytes(i: u8, session: Session) -> [u8; 8]
 pub(crate) fn draft_bytes(draft: Draft) -> [u8; 10]
     ensures { result ≡ written draft_form 0 draft }
 {
-    [
-        0x45,
-        (draft.number / 16777216) as u8,
-        (draft.number / 65536 % 256) as u8,
-        (draft.number / 256 % 256) as u8,
-        (draft.number % 256) as u8,
-        draft.script,
-        (draft.places / 16777216) as u8,
-        (draft.places / 65536 % 256) as u8,
-        (draft.places / 256 % 256) as u8,
-        (draft.places % 256) as u8,
-    ]
+    let [n1, n2, n3, n4] = draft.number.to_be_bytes();
+    let [p1, p2, p3, p4] = draft.places.to_be_bytes();
+    [0x45, n1, n2, n3, n4, draft.script, p1, p2, p3, p4]
 }

@@ -1,14 +1,15 @@
 -- The ring of slots: what the kept changes are after a store, a push and a pop.
-use Prim.Native.Nat.{ℕ, ◌+◌, ◌-◌, ◌*◌, ◌%◌, ◌≤◌, ◌<◌, min}
+use Prim.Native.Nat.{ℕ, suc, ◌+◌, ◌-◌, ◌*◌, ◌%◌, ◌≤◌, ◌<◌, min}
 use mathlib.Core.Path.{◌≡◌, refl, sym, ap, ◌∙◌}
-use mathlib.Core.List.{List, [], ◌∷◌, ◌++◌}
+use mathlib.Core.List.{List, [], ◌∷◌, ◌++◌, append_assoc}
 use native.Mathlib.Omega.{arith}
 use native.Mathlib.Decide.{dec_le}
-use lib.ListN.{length, get_or, set, take, drop, replicate, length-append, length-take, length-drop, get_or-append}
-use lib.Seq.{get_or-set_same, get_or-set_other, ext_get_or, get_or-take, get_or-drop, get_or_at}
-use Rattle.records.specs.Tables.{at, put_at, tabulate}
+use borrow.Rule.Slice.PartMut.{put_mid}
+use lib.ListN.{length, get_or, set, take, drop, replicate, take-append-drop, length-set, length-append, length-take, length-drop, get_or-append}
+use lib.Seq.{take-suc-set, drop-set-lt, drop-drop, get_or-set_same, get_or-set_other, ext_get_or, get_or-take, get_or-drop, get_or_at}
+use Rattle.records.specs.Tables.{at, puts, put_at, tabulate}
 use Rattle.records.proofs.Tables.{Laid, length_tabulate, get_d_tabulate, length_puts, same_put, put_here, put_other, same_set, zeros_at}
-use Rattle.request.specs.Bytes.{◌#◌, quad}
+use Rattle.request.specs.Bytes.{◌#◌, quad, quad_bytes}
 use Rattle.request.specs.Reading.{request_of}
 use Rattle.request.specs.Writing.{framed}
 use Rattle.request.specs.declared.Request.{Request}
@@ -32,6 +33,42 @@ said : (q : Request) (n : ℕ) → change_table.of (λ k. change_table.cells (re
 said q n =
     let read = ap (request_of (framed q # 0)) (nine (framed q) (framed_length q)) ∙ framed_makes q in
     (λ i. record { request = read i; number = quad_forth n i })
+
+-- ---- values that are put one behind the other are a part that is written at once
+puts_part : (s : List ℕ) (b k : ℕ) (vs : List ℕ) → b + k + length vs ≤ length s → put_mid (b + k) (length vs) s vs ≡ puts s b k vs
+puts_part s b k [] h = take-append-drop (b + k) s
+puts_part s b k (v ∷ vs) h =
+    let r = set s (b + k) v in
+    let z = length-set s (b + k) v in
+    let next : b + suc k ≡ suc (b + k) = omega arith in
+    let front : take (b + suc k) r ≡ take (b + k) s ++ (v ∷ []) = rw next (take-suc-set s (b + k) v (omega arith)) in
+    let rest : drop (length vs) (drop (b + suc k) r) ≡ drop (suc (length vs)) (drop (b + k) s) =
+    ap (drop (length vs)) (drop-set-lt (b + suc k) s (b + k) v (omega arith)) ∙ drop-drop (length vs) (b + suc k) s
+    ∙ ap (λ (n : ℕ). drop n s) (omega arith) ∙ sym (drop-drop (suc (length vs)) (b + k) s) in
+    sym (append_assoc (take (b + k) s) (v ∷ []) (vs ++ drop (suc (length vs)) (drop (b + k) s)))
+    ∙ rw (← front, ← rest) (puts_part r b (suc k) vs (omega arith))
+
+puts_more : (s : List ℕ) (b k : ℕ) (vs ws : List ℕ) → puts s b k (vs ++ ws) ≡ puts (puts s b k vs) b (k + length vs) ws
+puts_more s b k [] ws = ap (λ (n : ℕ). puts s b n ws) (omega arith)
+puts_more s b k (v ∷ vs) ws = puts_more (set s (b + k) v) b (suc k) vs ws ∙ ap (λ (n : ℕ). puts (puts s b k (v ∷ vs)) b n ws) (omega arith)
+
+-- a slot's two parts, written one after the other
+pub two_parts : (s : List ℕ) (c : Change) (slot : ℕ) (xs ys : List ℕ) → length s ≡ 418 → slot < 32 → xs ≡ framed c.request → ys ≡ quad_bytes c.number []
+    → let at : ℕ = 2 + 13 * slot in put_mid (at + 9) (at + 13 - (at + 9)) (put_mid at (at + 9 - at) s xs) ys ≡ put_at change_table s slot c
+two_parts s c slot xs ys z low is-xs is-ys =
+    let at : ℕ = 2 + 13 * slot in
+    let nine-long : length xs ≡ 9 = ap length is-xs ∙ framed_length c.request in
+    let four-long : length ys ≡ 4 = ap length is-ys in
+    let r = puts s at 0 xs in
+    let first : put_mid at (at + 9 - at) s xs ≡ r =
+    ap (λ (n : ℕ). put_mid at n s xs) (omega arith) ∙ ap (λ (n : ℕ). put_mid n (length xs) s xs) (omega arith) ∙ puts_part s at 0 xs (omega arith) in
+    let y = length_puts s at 0 xs in
+    let then : put_mid (at + 9) (at + 13 - (at + 9)) r ys ≡ puts r at 9 ys =
+    ap (λ (n : ℕ). put_mid (at + 9) n r ys) (omega arith) ∙ puts_part r at 9 ys (omega arith) in
+    let all : puts s at 0 (xs ++ ys) ≡ puts r at 9 ys = puts_more s at 0 xs ys ∙ ap (λ (n : ℕ). puts r at n ys) (omega arith) in
+    let b = framed c.request in
+    ap (λ (t : List ℕ). put_mid (at + 9) (at + 13 - (at + 9)) t ys) first ∙ then ∙ sym all
+    ∙ ap (λ (t : List ℕ). puts s at 0 (t ++ ys)) (is-xs ∙ sym (nine b (framed_length c.request))) ∙ ap (λ (t : List ℕ). puts s at 0 (b # 0 ∷ b # 1 ∷ b # 2 ∷ b # 3 ∷ b # 4 ∷ b # 5 ∷ b # 6 ∷ b # 7 ∷ b # 8 ∷ t)) is-ys
 
 pub change_laid : Laid change_table
 change_laid = record {

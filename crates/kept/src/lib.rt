@@ -17,24 +17,6 @@ pub type Log = [u8; 418];
 
 const SLOTS: usize = 2;
 
-fn count(bytes: &[u8]) -> usize
-    ensures { result ≡ length bytes.now }
-{
-    bytes.len()
-}
-
-fn sized(log: &Log)
-    ensures { length log.now ≡ 418 }
-{
-    count(log);
-}
-
-fn wide(byte: u8) -> usize
-    ensures { (result ≡ byte) × (result < 256) }
-{
-    byte as usize
-}
-
 // No change is kept.
 pub fn clear(log: &mut Log)
     ensures { past log.new ≡ [] }
@@ -46,7 +28,7 @@ pub fn clear(log: &mut Log)
 pub fn kept_count(log: &Log) -> usize
     ensures { (result ≡ length (past log.now)) × (result ≤ 32) }
 {
-    let n = wide(log[1]);
+    let n = usize::from(log[1]);
     if n < 32 { n } else { 32 }
 }
 
@@ -55,7 +37,7 @@ fn slot_of(log: &Log, i: usize) -> usize
     requires { i ≤ 32 }
     ensures { (result ≡ (get_or log.now 0 0 + i) % 32) × (result < 32) }
 {
-    (wide(log[0]) + i) % 32
+    (usize::from(log[0]) + i) % 32
 }
 
 // The change in a slot, made again.
@@ -64,7 +46,7 @@ fn redo_slot(records: &mut Cells, log: &Log, slot: usize)
     ensures { view records.new ≡ applied (view records.old) (at change_table log.now slot) }
 {
     let at = SLOTS + 13 * slot;
-    let request = request::request_of(
+    let request = request::request_of([
         log[at],
         log[at + 1],
         log[at + 2],
@@ -74,8 +56,8 @@ fn redo_slot(records: &mut Cells, log: &Log, slot: usize)
         log[at + 6],
         log[at + 7],
         log[at + 8],
-    );
-    let number = request::number_of(log[at + 9], log[at + 10], log[at + 11], log[at + 12]);
+    ]);
+    let number = u32::from_be_bytes([log[at + 9], log[at + 10], log[at + 11], log[at + 12]]);
     effects::apply(records, request, number);
 }
 
@@ -83,23 +65,9 @@ fn write_slot(log: &mut Log, slot: usize, change: Change)
     requires { slot < 32 }
     ensures { log.new ≡ put_at change_table log.old slot change }
 {
-    let request = change.request;
-    let frame = request::write(request);
-    let number = request::bytes_of(change.number);
     let at = SLOTS + 13 * slot;
-    log[at] = frame[0];
-    log[at + 1] = frame[1];
-    log[at + 2] = frame[2];
-    log[at + 3] = frame[3];
-    log[at + 4] = frame[4];
-    log[at + 5] = frame[5];
-    log[at + 6] = frame[6];
-    log[at + 7] = frame[7];
-    log[at + 8] = frame[8];
-    log[at + 9] = number.a;
-    log[at + 10] = number.b;
-    log[at + 11] = number.c;
-    log[at + 12] = number.d;
+    log[at..at + 9].copy_from_slice(&request::write(change.request));
+    log[at + 9..at + 13].copy_from_slice(&change.number.to_be_bytes());
 }
 
 // Kept change i made again, the oldest being 0; past the newest nothing happens.
@@ -117,7 +85,6 @@ pub fn redo(records: &mut Cells, log: &Log, i: usize)
 pub fn push(log: &mut Log, change: Change)
     ensures { past log.new ≡ pushed (past log.old) change }
 {
-    sized(log);
     let n = kept_count(log);
     let slot = slot_of(log, n);
     write_slot(log, slot, change);
@@ -132,7 +99,6 @@ pub fn push(log: &mut Log, change: Change)
 pub fn pop(log: &mut Log)
     ensures { past log.new ≡ popped (past log.old) }
 {
-    sized(log);
     let n = kept_count(log);
     if n == 0 {
         return;

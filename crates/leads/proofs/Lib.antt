@@ -1,2 +1,2 @@
--- The laws that the functions' proofs cite, and what a count says.
-pub mod Counting
+-- What a chain over the places of a list returned, for the crates above too.
+pub mod Chains

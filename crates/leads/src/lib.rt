@@ -30,13 +30,7 @@ pub fn end_lead(records: &mut Cells, w: u8, room: u8)
 pub fn count_leads(records: &Cells, room: u8) -> u32
     ensures { result ≡ lead_count (view records.now) room }
 {
-    let mut n: u32 = 0;
-    'users: for i in 0..64 {
-        let user = records::user_at(records, i);
-        if !records::has(user.leads, room) {
-            continue 'users;
-        }
-        n += 1;
-    }
-    n
+    (0..64)
+        .filter(|i| records::has(records::user_at(records, *i).leads, room))
+        .count() as u32
 }

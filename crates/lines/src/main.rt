@@ -3,7 +3,7 @@
 // the ruling: C0 and n added, refused with n; 80, granted; 81, granted with a number; 20, a change may be taken back.
 #![tactic(auto)]
 
-ghost use Rattle.std.specs.Prelude.{◌≡◌, ◌<◌, ◌≤◌, length, IfOk};
+ghost use Rattle.std.specs.Prelude.{◌<◌};
 
 use judge::Grant;
 use reasons::Reason;
@@ -153,54 +153,17 @@ fn edge() -> Cells {
 
 // d the daily house, l with a second lead, a and f with 255 and 256 live drafts, e the last of each range; any other letter no records.
 fn house(letter: u8) -> Cells {
-    if letter == b'd' {
-        return daily(12);
+    match letter {
+        b'd' => daily(12),
+        b'l' => led(),
+        b'a' => daily(256),
+        b'f' => daily(257),
+        b'e' => edge(),
+        _ => [0u32; 1858],
     }
-    if letter == b'l' {
-        return led();
-    }
-    if letter == b'a' {
-        return daily(256);
-    }
-    if letter == b'f' {
-        return daily(257);
-    }
-    if letter == b'e' {
-        return edge();
-    }
-    [0u32; 1858]
 }
 
 // ---- a case
-#[derive(Clone, Copy)]
-struct Case {
-    // 0 the house's letter, 1 the request, 2 the word
-    part: u8,
-    letter: u8,
-    digits: usize,
-    frame: [u8; 16],
-}
-
-fn fresh() -> Case {
-    Case {
-        part: 0,
-        letter: 0,
-        digits: 0,
-        frame: [0u8; 16],
-    }
-}
-
-fn digit(n: u8) -> u8
-    requires { n < 16 }
-{
-    if n < 10 { 48 + n } else { 55 + n }
-}
-
-fn print_byte<W: Write>(out: &mut W, byte: u8) -> io::Result<()> {
-    let pair = [digit(byte / 16), digit(byte % 16)];
-    out.write_all(&pair)
-}
-
 fn answer(ruling: Result<Grant, Reason>) -> u8 {
     match ruling {
         Err(reason) => {
@@ -215,11 +178,15 @@ fn answer(ruling: Result<Grant, Reason>) -> u8 {
 }
 
 fn rule_by(letter: u8) -> Rule {
-    if letter < b'a' { Rule::Two } else { Rule::One }
+    if letter.is_ascii_uppercase() {
+        Rule::Two
+    } else {
+        Rule::One
+    }
 }
 
 fn small(letter: u8) -> u8 {
-    if letter < b'a' { letter + 32 } else { letter }
+    letter.to_ascii_lowercase()
 }
 
 // The first n bytes of a frame judged. What is no request is a mistake of the case: 00.
@@ -235,107 +202,55 @@ fn ruled(letter: u8, frame: &[u8], n: usize) -> u8 {
     }
 }
 
-fn finish<W: Write>(out: &mut W, case: Case) -> io::Result<()> {
-    let frame = case.frame;
-    out.write_all(b" ")?;
-    print_byte(out, ruled(case.letter, &frame, case.digits / 2))?;
-    out.write_all(b"\n")
-}
-
-fn value(byte: u8) -> u8
+fn value(digit: u8) -> u8
     ensures { result < 16 }
 {
-    if byte < 58 {
-        return byte % 16; // 0 to 9
-    }
-    (byte - 55) % 16 // A to F
-}
-
-// One more digit of the request; between fields stands a low line.
-fn with_digit(case: Case, byte: u8) -> Case {
-    let at = case.digits;
-    if byte == b'_' {
-        return case;
-    }
-    if 31 < at {
-        return case;
-    }
-    let mut frame = case.frame;
-    let high = frame[at / 2] % 16;
-    frame[at / 2] = high * 16 + value(byte);
-    Case {
-        digits: at + 1,
-        frame,
-        ..case
+    // 0 to 9; A to F, a to f
+    if digit < 58 {
+        digit % 16
+    } else {
+        (digit - 55) % 16
     }
 }
 
-// The part behind a space; where the request ends, the line begins with its kind.
-fn behind<W: Write>(out: &mut W, case: Case) -> io::Result<Case> {
-    if case.part == 0 {
-        return Ok(Case { part: 1, ..case });
+// Puts the bytes that a word shows in hex, and says how many they are; between fields stands a low line.
+fn hex(word: &[u8], room: &mut [u8]) -> usize {
+    let mut digits = 0;
+    for digit in word {
+        if *digit != b'_' && digits / 2 < room.len() {
+            room[digits / 2] = room[digits / 2] % 16 * 16 + value(*digit);
+            digits += 1;
+        }
     }
-    let frame = case.frame;
-    print_byte(out, frame[0])?;
-    out.write_all(b" ")?;
-    Ok(Case { part: 2, ..case })
+    digits / 2
 }
 
-fn step<W: Write>(out: &mut W, case: Case, byte: u8) -> io::Result<Case> {
-    if byte == b'\n' {
-        finish(out, case)?;
-        return Ok(fresh());
+// A line that the end of the input cuts short has no ruling.
+fn case<W: Write>(out: &mut W, line: &[u8]) -> io::Result<()> {
+    let whole = line.strip_suffix(b"\n");
+    let mut fields = whole.unwrap_or(line).split(|byte| *byte == b' ');
+    let house = fields.next().unwrap_or_default();
+    let mut frame = [0u8; 16];
+    let n = hex(fields.next().unwrap_or_default(), &mut frame);
+    for word in fields {
+        write!(out, "{:02X} ", frame[0])?;
+        out.write_all(word)?;
     }
-    if byte == b' ' {
-        return behind(out, case);
+    if whole.is_none() {
+        return Ok(());
     }
-    if case.part == 0 {
-        return Ok(Case {
-            letter: byte,
-            ..case
-        });
-    }
-    if case.part == 1 {
-        return Ok(with_digit(case, byte));
-    }
-    let letter = [byte];
-    out.write_all(&letter)?;
-    Ok(case)
-}
-
-fn run<W: Write>(out: &mut W, input: &[u8]) -> io::Result<()> {
-    let mut case = fresh();
-    for byte in input {
-        case = step(out, case, *byte)?;
-    }
-    Ok(())
+    let letter = house.last().copied().unwrap_or_default();
+    writeln!(out, " {:02X}", ruled(letter, &frame, n))
 }
 
 // ---- the input
-fn input_room() -> [u8; 65536]
-    ensures { 65536 ≡ length result }
-{
-    [0; 65536]
-}
-
-// What stands at the front of the input, as much as there is room for; the answer is how much.
-fn read_input(rt: &HostRuntime, input: &mut [u8]) -> io::Result<usize>
-    ensures { IfOk result (λ n. n ≤ length input.new) }
-{
-    let mut have: usize = 0;
-    while have < input.len() {
-        let got = rt.stdin().read(&mut input[have..])?;
-        if got == 0 {
-            break;
-        }
-        have += got;
-    }
-    Ok(have)
-}
-
+// As much of it as there is room for is read.
 fn main(rt: HostRuntime) -> io::Result<()> {
-    let mut input = input_room();
-    let n = read_input(&rt, &mut input)?;
+    let mut input = [0u8; 65536];
+    let n = io::copy(&mut rt.stdin().take(65536), &mut &mut input[..])? as usize;
     let mut out = io::writer(&rt);
-    run(&mut out, &input[..n])
+    for line in input[..n.min(65536)].split_inclusive(|byte| *byte == b'\n') {
+        case(&mut out, line)?;
+    }
+    Ok(())
 }

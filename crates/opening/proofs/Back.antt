@@ -1,4 +1,5 @@
 -- A walk over an image takes in the records that it is the image of.
+use Rattle.std.specs.Prelude.{Ok, Err}
 use Prim.Native.Nat.{ℕ, suc, ◌≤◌}
 use mathlib.Core.Path.{◌≡◌, refl, sym, ap, ◌∙◌}
 use mathlib.Core.Bool.{Bool, true, false, cond}
@@ -8,6 +9,7 @@ use lib.Dec.{eqb, leb}
 use lib.ListN.{length, take, get_or, set, replicate, length-append}
 use borrow.Author.Tests.{le-ltb}
 use Rattle.request.specs.Bytes.{◌#◌}
+use Rattle.request.specs.declared.FrameError.TheVariants.{Cut}
 use Rattle.records.specs.Places.{has, with, room_numbers}
 use Rattle.records.specs.House.{House, no_user, no_script, no_session, empty_house, is_yes, as_number}
 use Rattle.records.specs.declared.User.{User}
@@ -23,7 +25,6 @@ use Rattle.rules.proofs.Meaning.{rules_are}
 use Rattle.image.specs.Forms.{sizes, spelt, Form, written, written_if, listed}
 use Rattle.image.specs.Image.{counter_form, rule_form, is_two, user_form, room_form, script_form, session_form, draft_form, image_of}
 use Rattle.reader.specs.Reading.{Saved, saved, blank, row, rows, at, find, take_counter, take_rule, take_user, take_room, take_script, take_session, take_draft, taken_in, stopped, frame, walked}
-use Rattle.reader.specs.declared.Walk.{Walk}
 use Rattle.reader.proofs.Walking.{skipped}
 use Rattle.opening.specs.Opening.{image, keeps}
 use Rattle.opening.proofs.Fields.{Fill, length_spelt, fields_back}
@@ -61,7 +62,7 @@ module _ {A : Type 0} {form : Form A} {put : ℕ → A → Saved → Saved} {the
         let l = length-append (spelt form.widths vs) rest in
         let room : sizes form.widths ≤ length b = omega arith in
         ap (λ q. frame q b s (λ n t. walked n t b)) g.found
-        ∙ ap (λ (t : Bool). cond t (stopped Walk.Cut s) (walked (sizes form.widths) (taken_in (at (row form put)) b s) b)) (le-ltb (length b) (sizes form.widths) room)
+        ∙ ap (λ (t : Bool). cond t (stopped (Err Cut) s) (walked (sizes form.widths) (taken_in (at (row form put)) b s) b)) (le-ltb (length b) (sizes form.widths) room)
         ∙ ap (λ (us : List ℕ). walked (sizes form.widths) (put (us # 0) (form.of (λ k. us # k)) s) b) (fields_back form.widths vs (g.full n x) rest)
         ∙ ap (λ (m : ℕ). walked m (put (vs # 0) (form.of (λ k. vs # k)) s) b) (sym z)
         ∙ skipped (spelt form.widths vs) rest (put (vs # 0) (form.of (λ k. vs # k)) s)
@@ -191,7 +192,7 @@ drafts_back ds l whole is =
     (fill_part take_draft (λ _ d l. take 256 (l ++ (d ∷ []))) whole is 0 ds [] ∙ ap whole (fill_list 256 0 [] ds (omega arith)))
 
 -- ---- the whole image: for records that keep the rules, the walk over their image takes in exactly them
-pub back : (s : Saved) → keeps s ≡ true → walked 0 blank (image s) ≡ stopped Walk.Whole s
+pub back : (s : Saved) → keeps s ≡ true → walked 0 blank (image s) ≡ stopped (Ok tt) s
 unfolding image_of walked empty_house
 back s k =
     let R = (rules_are s.house s.last).says k in

@@ -1,42 +1,34 @@
--- Each way through `open`.
+-- Each way through `take_image`.
+use Rattle.std.specs.Prelude.{Ok, Err}
+use Rattle.std.specs.Result.{IsErrAnd}
 use Prim.Native.Nat.{ℕ}
-use mathlib.Core.Path.{◌≡◌, refl, sym, ap, ◌∙◌}
-use mathlib.Core.Bool.{Bool, true, false, cond, ◌&&◌}
+use mathlib.Core.Path.{◌≡◌, sym, ap, ◌∙◌}
+use mathlib.Core.Bool.{Bool, true, false, cond}
 use mathlib.Core.List.{List}
-use native.Mathlib.Omega.{arith}
+use lib.Dec.{eqb}
 use lib.ListN.{length}
-use borrow.Author.Tests.{eq-eqb, ne_eqb}
-use Rattle.reader.specs.Reading.{Saved, blank, Taken, stopped, walked}
-use Rattle.reader.specs.declared.Walk.{Walk}
-use Rattle.opening.specs.Opening.{image, keeps, refused, accepted, same_bytes, by_walk, opened_by}
+use Rattle.request.specs.declared.FrameError.{FrameError}
+use Rattle.reader.specs.Reading.{Saved, blank, Taken, Walk, stopped, walked}
+use Rattle.opening.specs.Opening.{of_frame, image, keeps, Opening, refused, accepted, settled, same_bytes, by_walk, opened_by}
+use Rattle.opening.specs.declared.OpenError.TheVariants.{Cut, NoImage}
 
-pub no_bytes : (b : List ℕ) → length b ≡ 0 → refused 14 ≡ opened_by b
+pub no_bytes : (b : List ℕ) → eqb (length b) 0 ≡ true → refused Cut ≡ opened_by b
 unfolding opened_by
-no_bytes b e = sym (ap (λ (t : Bool). cond t (refused 14) (by_walk (walked 0 blank b) b (walked 0 blank b).stop)) (eq-eqb (length b) 0 e))
+no_bytes b e = rw e
 
 -- the walk over b stopped by w and took s in
-module _ (b : List ℕ) (some : length b ≡ 0 → ⊥) (w : Walk) (s : Saved) (e : stopped w s ≡ walked 0 blank b) where
+module _ (b : List ℕ) (some : eqb (length b) 0 ≡ false) (w : Walk) (s : Saved) (e : stopped w s ≡ walked 0 blank b) where
   by : opened_by b ≡ by_walk (stopped w s) b w
   unfolding opened_by
-  by =
-      ap (λ (t : Bool). cond t (refused 14) (by_walk (walked 0 blank b) b (walked 0 blank b).stop)) (ne_eqb (length b) 0 some)
-      ∙ sym (ap (λ (t : Taken). by_walk t b t.stop) e)
+  by = rw some (sym (ap (λ (t : Taken). by_walk t b t.stop) e))
 
-  pub unknown : w ≡ Walk.Unknown → refused 15 ≡ opened_by b
-  unknown k = sym (by ∙ ap (by_walk (stopped w s) b) k)
+  pub no_frame : (why : FrameError) → w ≡ Err why → (r : Opening) → IsErrAnd r (λ o. o ≡ of_frame why) → settled r s ≡ opened_by b
+  no_frame why k (Ok _) is = elim is [ ]
+  no_frame why k (Err o) is = ap refused is ∙ sym (by ∙ ap (by_walk (stopped w s) b) k)
 
-  pub cut : w ≡ Walk.Cut → refused 14 ≡ opened_by b
-  cut k = sym (by ∙ ap (by_walk (stopped w s) b) k)
+  module _ (end : w ≡ Ok tt) where
+    pub breaks_rule : keeps s ≡ false → refused NoImage ≡ opened_by b
+    breaks_rule k = sym (by ∙ ap (by_walk (stopped w s) b) end ∙ rw k)
 
-  tests : (k t : Bool) → w ≡ Walk.Whole → keeps s ≡ k → (k ≡ true → same_bytes (image s) b ≡ t) → opened_by b ≡ cond (k && t) (accepted s) (refused 15)
-  tests true t v p q = by ∙ ap (by_walk (stopped w s) b) v ∙ (λ i. cond (p i && q refl i) (accepted s) (refused 15))
-  tests false t v p q = by ∙ ap (by_walk (stopped w s) b) v ∙ ap (λ (x : Bool). cond (x && same_bytes (image s) b) (accepted s) (refused 15)) p
-
-  pub breaks_rule : w ≡ Walk.Whole → keeps s ≡ false → refused 15 ≡ opened_by b
-  breaks_rule v p = sym (tests false false v p (λ z. absurd (let y : ◌≡◌ {A = ℕ} 0 1 = cc in omega arith)))
-
-  pub not_its_image : w ≡ Walk.Whole → keeps s ≡ true → same_bytes (image s) b ≡ false → refused 15 ≡ opened_by b
-  not_its_image v p q = sym (tests true false v p (λ _. q))
-
-  pub is_its_image : w ≡ Walk.Whole → keeps s ≡ true → same_bytes (image s) b ≡ true → accepted s ≡ opened_by b
-  is_its_image v p q = sym (tests true true v p (λ _. q))
+    pub is_kept : keeps s ≡ true → (t : Bool) → t ≡ same_bytes (image s) b → cond t (accepted s) (refused NoImage) ≡ opened_by b
+    is_kept k t e = sym (by ∙ ap (by_walk (stopped w s) b) end ∙ rw (k, e))

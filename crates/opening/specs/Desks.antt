@@ -4,8 +4,7 @@ use Rattle.records.specs.House.{House}
 use Rattle.records.specs.declared.Rule.{Rule}
 use Rattle.effects.specs.declared.Change.{Change}
 use Rattle.history.specs.Machine.{Desk, opened}
-use Rattle.opening.specs.Opening.{opened_by}
-use Rattle.opening.specs.declared.Opening.{Opening}
+use Rattle.opening.specs.Opening.{Opening, opened_by}
 
 -- the answer, the desk that is then open, and its rule
 pub record OpensDesk : Type 0 where

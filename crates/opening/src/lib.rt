@@ -6,92 +6,89 @@ ghost use Rattle.records.specs.House.{view};
 ghost use Rattle.reader.specs.Reading.{saved};
 ghost use Rattle.image.specs.Image.{image_of};
 ghost use Rattle.history.specs.Desk.{shown};
-ghost use Rattle.opening.specs.Opening.{opens, refused, same_bytes, opened_by};
+ghost use Rattle.opening.specs.Opening.{error_number, of_frame, opens, settled, same_bytes, opened_by};
 ghost use Rattle.opening.specs.Desks.{opens_desk, desk_by};
 
-use image::Written;
 use kept::Log;
-use reader::Walk;
 use records::{Cells, Rule};
+use request::FrameError;
 
-// Refused: 14, no bytes or an end inside a body; 15, not an image.
-#[derive(Clone, Copy)]
-pub enum Opening {
-    Opened,
-    Refused(u8),
+// Why an image is refused: no bytes, or an end inside a body; or not an image.
+#[derive(Clone, Copy, PartialEq, Eq)]
+pub enum OpenError {
+    Cut,
+    NoImage,
 }
 
-// The rule is the image's; of a refused one it is rule 1.
-#[derive(Clone, Copy)]
-pub struct Opened {
-    pub answer: Opening,
-    pub rule: Rule,
-}
-
-fn same(a: &[u8], b: &[u8]) -> bool
-    ensures { result ≡ same_bytes a.now b.now }
-{
-    let end = a.len();
-    if b.len() != end {
-        return false;
-    }
-    'bytes: for i in 0..end {
-        if a[i] != b[i] {
-            return false;
+impl OpenError {
+    pub fn number(self) -> u8
+        ensures { result ≡ error_number self }
+    {
+        match self {
+            OpenError::Cut => 14,
+            OpenError::NoImage => 15,
         }
     }
-    true
+}
+
+impl From<FrameError> for OpenError {
+    ghost from_gives = { λ error result. result ≡ of_frame error };
+
+    fn from(error: FrameError) -> OpenError {
+        match error {
+            FrameError::Unknown => OpenError::NoImage,
+            FrameError::Cut => OpenError::Cut,
+        }
+    }
 }
 
 // Whether these bytes are the image of the records, the last number and the rule: it is written again and compared. Any image fits.
+#[tactic(auto, using(image::proofs::Ways::never_refused))]
 fn is_image(records: &Cells, last: u32, rule: Rule, bytes: &[u8]) -> bool
     ensures { result ≡ same_bytes (image_of (view records.now) last rule) bytes.now }
 {
     let mut again = [0u8; 4454];
-    let Written::Bytes(n) = image::save(records, last, rule, &mut again) else {
+    let Ok(n) = image::save(records, last, rule, &mut again) else {
         return false;
     };
-    same(&again[..n], bytes)
+    &again[..n] == bytes
 }
 
-// No records, the last number 0 and rule 1.
-fn refuse(records: &mut Cells, last: &mut u32, why: u8) -> Opened
-    ensures { opens result.answer (saved (view records.new) last.new result.rule) ≡ refused why }
+// The records, the last number and the rule that the image holds; where it is refused, what the reader took in.
+fn take_image(
+    image: &[u8],
+    records: &mut Cells,
+    last: &mut u32,
+    rule: &mut Rule,
+) -> Result<(), OpenError>
+    ensures { settled result (saved (view records.new) last.new rule.new) ≡ opened_by image.now }
 {
-    records::clear(records);
-    *last = 0;
-    Opened {
-        answer: Opening::Refused(why),
-        rule: Rule::One,
+    if image.is_empty() {
+        return Err(OpenError::Cut);
     }
+    reader::take_all(image, records, last, rule)?;
+    if !rules::keeps(records, *last) || !is_image(records, *last, *rule, image) {
+        return Err(OpenError::NoImage);
+    }
+    Ok(())
 }
 
 // The records, the last number and the rule that the image holds; or none, 0 and rule 1.
-pub fn open(image: &[u8], records: &mut Cells, last: &mut u32) -> Opened
-    ensures { opens result.answer (saved (view records.new) last.new result.rule) ≡ opened_by image.now }
+pub fn open(
+    image: &[u8],
+    records: &mut Cells,
+    last: &mut u32,
+    rule: &mut Rule,
+) -> Result<(), OpenError>
+    ensures { opens result (saved (view records.new) last.new rule.new) ≡ opened_by image.now }
 {
-    if image.len() == 0 {
-        return refuse(records, last, 14);
+    let answer = take_image(image, records, last, rule);
+    if answer.is_err() {
+        records::clear(records);
+        *last = 0;
+        *rule = Rule::One;
     }
-    let walked = reader::take_all(image, records, last);
-    let walk = walked.walk;
-    let rule = walked.rule;
-    match walk {
-        Walk::Unknown => refuse(records, last, 15),
-        Walk::Cut => refuse(records, last, 14),
-        Walk::Whole => {
-            if !rules::keeps(records, *last) {
-                return refuse(records, last, 15);
-            }
-            if !is_image(records, *last, rule, image) {
-                return refuse(records, last, 15);
-            }
-            Opened {
-                answer: Opening::Opened,
-                rule,
-            }
-        }
-    }
+    answer
 }
 
 // A desk with the records, the last number and the rule that the image holds. No change is kept: what was done before can't be taken back.
@@ -101,12 +98,13 @@ pub fn open_desk(
     log: &mut Log,
     current: &mut Cells,
     last: &mut u32,
-) -> Opened
-    ensures { opens_desk result.answer (shown base.new log.new current.new last.new) result.rule ≡ desk_by image.now }
+    rule: &mut Rule,
+) -> Result<(), OpenError>
+    ensures { opens_desk result (shown base.new log.new current.new last.new) rule.new ≡ desk_by image.now }
 {
-    let opened = open(image, current, last);
+    let answer = open(image, current, last, rule);
     let records = *current;
     *base = records;
     kept::clear(log);
-    opened
+    answer
 }

@@ -1,19 +1,19 @@
 -- The walk frame by frame: what the frame at a byte does, and that kinds and lengths alone decide where the walk stops.
-use Rattle.std.specs.Prelude.{Some, None}
-use Prim.Native.Nat.{ℕ, zero, suc, ◌+◌, ◌-◌, ◌≤◌, ◌<◌}
+use Rattle.std.specs.Prelude.{Some, None, Ok, Err}
+use Rattle.std.specs.List.{slice_range}
+use Prim.Native.Nat.{ℕ, zero, suc, ◌-◌, ◌≤◌, ◌<◌}
 use mathlib.Core.Path.{◌≡◌, refl, sym, ap, ◌∙◌}
 use mathlib.Core.Bool.{Bool, true, false, cond}
 use mathlib.Core.List.{List, [], ◌∷◌, ◌++◌}
 use native.Mathlib.Omega.{arith}
-use native.Mathlib.Numerals.{add-one}
 use lib.Dec.{ltb}
-use lib.ListN.{length, take, drop, length-drop, drop_of_length-le, take-append-drop}
-use lib.Seq.{take_all, drop-cons, length-take-le, drop-drop}
+use lib.ListN.{length, take, drop, length-drop, take-append-drop}
+use lib.Seq.{take_all, length-take-le}
 use borrow.Author.Tests.{lt-ltb, le-ltb}
-use Rattle.request.specs.Bytes.{◌#◌}
+use Rattle.request.specs.declared.FrameError.TheVariants.{Unknown, Cut}
+use Rattle.request.proofs.Absurd.{differ}
 use Rattle.image.specs.Forms.{sizes}
-use Rattle.reader.specs.Reading.{Saved, rows, Sought, at, none, find, length_at, taken_in, Taken, stopped, frame, walked, by_length, stop_of}
-use Rattle.reader.specs.declared.Walk.{Walk}
+use Rattle.reader.specs.Reading.{Saved, rows, Sought, at, none, find, length_at, taken_in, Walk, Taken, stopped, frame, walked, by_length, stop_of}
 
 -- ---- the bytes of a body are passed over
 pub skipped : (xs ys : List ℕ) (s : Saved) → walked (length xs) s (xs ++ ys) ≡ walked 0 s ys
@@ -21,57 +21,51 @@ unfolding walked
 skipped [] ys s = refl
 skipped (x ∷ xs) ys s = skipped xs ys s
 
-next : (b : List ℕ) (i : ℕ) → i < length b → drop i b ≡ b # i ∷ drop (i + 1) b
-next b i h = rw (add-one i) (drop-cons b i 0 h)
-
 -- ---- a frame by its kind's row
 module _ (s : Saved) (b : List ℕ) (on : ℕ → Saved → Taken) where
-  by_unknown : (q : Sought) → length_at q ≡ None → frame q b s on ≡ stopped Walk.Unknown s
+  by_unknown : (q : Sought) → length_at q ≡ None → frame q b s on ≡ stopped (Err Unknown) s
   by_unknown none e = refl
-  by_unknown (at r) e = absurd (let z : ◌≡◌ {A = ℕ} 0 1 = cc in omega arith)
+  by_unknown (at r) e = differ (cc)
 
-  by_cut : (q : Sought) (n : ℕ) → length_at q ≡ Some n → length b < n → frame q b s on ≡ stopped Walk.Cut s
-  by_cut none n e h = absurd (let z : ◌≡◌ {A = ℕ} 0 1 = cc in omega arith)
+  by_cut : (q : Sought) (n : ℕ) → length_at q ≡ Some n → length b < n → frame q b s on ≡ stopped (Err Cut) s
+  by_cut none n e h = differ (cc)
   by_cut (at r) n e h =
       let z : sizes r.widths ≡ n = cc in
-      ap (λ (t : Bool). cond t (stopped Walk.Cut s) (on (sizes r.widths) (taken_in (at r) b s))) (lt-ltb (length b) (sizes r.widths) (omega arith))
+      ap (λ (t : Bool). cond t (stopped (Err Cut) s) (on (sizes r.widths) (taken_in (at r) b s))) (lt-ltb (length b) (sizes r.widths) (omega arith))
 
   by_whole : (q : Sought) (n : ℕ) → length_at q ≡ Some n → n ≤ length b → frame q b s on ≡ on n (taken_in q b s)
-  by_whole none n e h = absurd (let z : ◌≡◌ {A = ℕ} 0 1 = cc in omega arith)
+  by_whole none n e h = differ (cc)
   by_whole (at r) n e h =
       let z : sizes r.widths ≡ n = cc in
-      ap (λ (t : Bool). cond t (stopped Walk.Cut s) (on (sizes r.widths) (taken_in (at r) b s))) (le-ltb (length b) (sizes r.widths) (omega arith))
+      ap (λ (t : Bool). cond t (stopped (Err Cut) s) (on (sizes r.widths) (taken_in (at r) b s))) (le-ltb (length b) (sizes r.widths) (omega arith))
       ∙ ap (λ (k : ℕ). on k (taken_in (at r) b s)) z
 
--- ---- the frame at byte i
-module _ (s : Saved) (b : List ℕ) (i : ℕ) (h : i < length b) where
-  first : walked 0 s (drop i b) ≡ frame (find rows (b # i)) (drop (i + 1) b) s (λ n t. walked n t (drop (i + 1) b))
+-- ---- the frame in front of `rest`
+module _ (s : Saved) (kind : ℕ) (rest : List ℕ) where
+  pub unknown_here : None ≡ length_at (find rows kind) → walked 0 s (kind ∷ rest) ≡ stopped (Err Unknown) s
   unfolding walked
-  first = ap (walked 0 s) (next b i h)
+  unknown_here e = by_unknown s rest _ (find rows kind) (sym e)
 
-  pub unknown_here : None ≡ length_at (find rows (b # i)) → walked 0 s (drop i b) ≡ stopped Walk.Unknown s
-  unknown_here e = first ∙ by_unknown s (drop (i + 1) b) _ (find rows (b # i)) (sym e)
+  pub cut_here : (n : ℕ) → Some n ≡ length_at (find rows kind) → length rest < n → walked 0 s (kind ∷ rest) ≡ stopped (Err Cut) s
+  unfolding walked
+  cut_here n e l = by_cut s rest _ (find rows kind) n (sym e) l
 
-  pub cut_here : (n : ℕ) → Some n ≡ length_at (find rows (b # i)) → length b - (i + 1) < n → walked 0 s (drop i b) ≡ stopped Walk.Cut s
-  cut_here n e l = first ∙ by_cut s (drop (i + 1) b) _ (find rows (b # i)) n (sym e) (omega (arith, length-drop (i + 1) b))
-
-  pub whole_here : (n : ℕ) → Some n ≡ length_at (find rows (b # i)) → n ≤ length b - (i + 1)
-      → walked 0 s (drop i b) ≡ walked 0 (taken_in (find rows (b # i)) (drop (i + 1) b) s) (drop (i + 1 + n) b)
+  pub whole_here : (n : ℕ) → Some n ≡ length_at (find rows kind) → n ≤ length rest
+      → walked 0 s (kind ∷ rest) ≡ walked 0 (taken_in (find rows kind) rest s) (slice_range rest n (length rest))
+  unfolding walked
   whole_here n e l =
-      let rest = drop (i + 1) b in
-      let t = taken_in (find rows (b # i)) rest s in
-      let k : n ≤ length rest = omega (arith, length-drop (i + 1) b) in
-      first ∙ by_whole s rest _ (find rows (b # i)) n (sym e) k
-      ∙ sym (λ j. walked (length-take-le n rest k j) t (take-append-drop n rest j))
-      ∙ skipped (take n rest) (drop n rest) t ∙ ap (walked 0 t) (drop-drop n (i + 1) b)
+      let t = taken_in (find rows kind) rest s in
+      by_whole s rest _ (find rows kind) n (sym e) l
+      ∙ sym (λ j. walked (length-take-le n rest l j) t (take-append-drop n rest j))
+      ∙ skipped (take n rest) (drop n rest) t ∙ ap (walked 0 t) (sym (take_all (length rest - n) (drop n rest) (omega (arith, length-drop n rest))))
 
-pub at_end_lem : (s : Saved) (b : List ℕ) (i : ℕ) → length b ≤ i → walked 0 s (drop i b) ≡ stopped Walk.Whole s
+pub at_end_lem : (s : Saved) (b : List ℕ) → length b ≡ 0 → walked 0 s b ≡ stopped (Ok tt) s
 unfolding walked
-at_end_lem s b i h = ap (walked 0 s) (drop_of_length-le b h)
+at_end_lem s [] h = refl
+at_end_lem s (x ∷ rest) h = absurd (omega arith)
 
--- a part that goes to the end
-pub part_all : (b : List ℕ) (i : ℕ) → take (length b - i) (drop i b) ≡ drop i b
-part_all b i = take_all (length b - i) (drop i b) (omega (arith, length-drop i b))
+-- the ways through a turn of `take_all`, and its end
+pub ruleset turns = (unknown_here, cut_here, whole_here, at_end_lem)
 
 -- ---- the stop of a walk depends on kinds and lengths alone
 stop_by : (q : Sought) (b : List ℕ) (s : Saved) (on : ℕ → Saved → Taken) (off : ℕ → Walk) → ((n : ℕ) (t : Saved) → (on n t).stop ≡ off n)
@@ -79,7 +73,7 @@ stop_by : (q : Sought) (b : List ℕ) (s : Saved) (on : ℕ → Saved → Taken)
 stop_by none b s on off e = refl
 stop_by (at r) b s on off e = go (ltb (length b) (sizes r.widths))
   where
-    go : (t : Bool) → (cond t (stopped Walk.Cut s) (on (sizes r.widths) (taken_in (at r) b s))).stop ≡ cond t Walk.Cut (off (sizes r.widths))
+    go : (t : Bool) → (cond t (stopped (Err Cut) s) (on (sizes r.widths) (taken_in (at r) b s))).stop ≡ cond t (Err Cut) (off (sizes r.widths))
     go true = refl
     go false = e (sizes r.widths) (taken_in (at r) b s)
 

@@ -1,7 +1,9 @@
 -- What the reader takes in. 02, L2: "The reader walks the frames first". Order, doubles, bounds and rules are not asked here: whoever opens an image tests what was
 -- taken in, writes it again and compares.
-use Rattle.std.specs.Prelude.{ℕ, zero, suc, cond, List, [], ◌∷◌, eqb, ltb, length, Option, Some, None}
+use Rattle.std.specs.Prelude.{ℕ, zero, suc, cond, List, [], ◌∷◌, eqb, ltb, length, Option, Some, None, Result, Ok, Err}
 use Rattle.request.specs.Bytes.{◌#◌}
+use Rattle.request.specs.declared.FrameError.{FrameError}
+use Rattle.request.specs.declared.FrameError.TheVariants.{Unknown, Cut}
 use Rattle.records.specs.Places.{with}
 use Rattle.records.specs.House.{House, empty_house, put_user, put_rooms, put_script, put_session, add_draft}
 use Rattle.records.specs.declared.User.{User}
@@ -11,7 +13,6 @@ use Rattle.records.specs.declared.Draft.{Draft}
 use Rattle.records.specs.declared.Rule.{Rule}
 use Rattle.image.specs.Forms.{Width, sizes, fields_at, Form}
 use Rattle.image.specs.Image.{counter_form, rule_form, user_form, room_form, script_form, session_form, draft_form}
-use Rattle.reader.specs.declared.Walk.{Walk}
 
 -- what an image holds: the records, the last number used, and the rule
 pub record Saved : Type 0 where
@@ -86,7 +87,10 @@ abbrev pub taken_in : Sought → List ℕ → Saved → Saved
 taken_in (at r) body s = r.put (λ k. fields_at r.widths body 0 # k) s
 taken_in none body s = s
 
--- ---- the walk: where it stops, and what was taken in by then
+-- ---- the walk: where it stops, at the end of whole frames or before one that is none, and what was taken in by then
+abbrev pub Walk : Type 0
+Walk = Result (Unit {0}) FrameError
+
 pub record Taken : Type 0 where
   pub stop : Walk
   pub got : Saved
@@ -96,21 +100,21 @@ stopped w s = record { stop = w; got = s }
 
 -- the frame of a row in front of `rest`; behind it the walk goes on
 abbrev pub frame : Sought → List ℕ → Saved → (ℕ → Saved → Taken) → Taken
-frame none rest s on = stopped Walk.Unknown s
-frame (at r) rest s on = cond (ltb (length rest) (sizes r.widths)) (stopped Walk.Cut s) (on (sizes r.widths) (taken_in (at r) rest s))
+frame none rest s on = stopped (Err Unknown) s
+frame (at r) rest s on = cond (ltb (length rest) (sizes r.widths)) (stopped (Err Cut) s) (on (sizes r.widths) (taken_in (at r) rest s))
 
 -- the frames behind the next `skip` bytes
 unfoldable pub walked : ℕ → Saved → List ℕ → Taken
-walked skip s [] = stopped Walk.Whole s
+walked skip s [] = stopped (Ok tt) s
 walked (suc skip) s (b ∷ rest) = walked skip s rest
 walked zero s (kind ∷ rest) = frame (find rows kind) rest s (λ n t. walked n t rest)
 
 -- ---- the same walk for its stop alone: kinds and lengths decide it
 abbrev pub by_length : Option ℕ → ℕ → (ℕ → Walk) → Walk
-by_length None left on = Walk.Unknown
-by_length (Some n) left on = cond (ltb left n) Walk.Cut (on n)
+by_length None left on = Err Unknown
+by_length (Some n) left on = cond (ltb left n) (Err Cut) (on n)
 
 unfoldable pub stop_of : ℕ → List ℕ → Walk
-stop_of skip [] = Walk.Whole
+stop_of skip [] = Ok tt
 stop_of (suc skip) (b ∷ rest) = stop_of skip rest
 stop_of zero (kind ∷ rest) = by_length (length_at (find rows kind)) (length rest) (λ n. stop_of n rest)

@@ -9,26 +9,26 @@ use records::{Draft, Script, Session, User};
 pub(crate) fn byte_at(body: &[u8], i: usize) -> u8
     ensures { result ≡ body.now # i }
 {
-    if i < body.len() { body[i] } else { 0 }
+    body.get(i).copied().unwrap_or(0)
 }
 
 fn pair_at(body: &[u8], at: u8) -> u16
     ensures { result ≡ pair_at body.now at }
 {
     let i = at as usize;
-    (byte_at(body, i) as u16) * 256 + (byte_at(body, i + 1) as u16)
+    u16::from_be_bytes([byte_at(body, i), byte_at(body, i + 1)])
 }
 
 pub(crate) fn quad_at(body: &[u8], at: u8) -> u32
     ensures { result ≡ quad_at body.now at }
 {
     let i = at as usize;
-    request::number_of(
+    u32::from_be_bytes([
         byte_at(body, i),
         byte_at(body, i + 1),
         byte_at(body, i + 2),
         byte_at(body, i + 3),
-    )
+    ])
 }
 
 // ---- the elements: byte 0 is the id

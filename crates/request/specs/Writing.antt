@@ -1,7 +1,6 @@
 -- A request written out by 01's table: its kind, then its fields.
 use Rattle.std.specs.Prelude.{ℕ, ◌/◌, ◌%◌, List, [], ◌∷◌, ◌++◌, take, replicate}
 use Rattle.request.specs.Bytes.{pair_bytes, quad_bytes}
-use Rattle.request.specs.declared.Quad.{Quad}
 use Rattle.request.specs.declared.Request.{Request}
 
 -- "v has four bytes, c (categories) two, the rest one"
@@ -53,7 +52,3 @@ written q = (spelling q).kind ∷ spelt (spelling q).fields
 -- the same in nine bytes, the longest frame: zeros follow
 abbrev pub framed : Request → List ℕ
 framed q = take 9 (written q ++ replicate 9 0)
-
--- the bytes of a number, the most significant first
-abbrev pub quad_of : ℕ → Quad
-quad_of n = record { a = n / 16777216; b = n / 65536 % 256; c = n / 256 % 256; d = n % 256 }

@@ -7,8 +7,8 @@ mod writing;
 ghost use Rattle.std.specs.Prelude.{◌≡◌};
 ghost use Rattle.request.specs.Kinds.{body_length};
 
-pub use reading::{first, number_of, read, request_of, start_of};
-pub use writing::{bytes_of, write};
+pub use reading::{first, read, request_of, start_of};
+pub use writing::write;
 
 // One variant a kind; the fields stand in the order of their bytes.
 #[derive(Clone, Copy)]
@@ -135,15 +135,6 @@ pub enum FrameError {
     Cut,
 }
 
-// Four bytes, the most significant first.
-#[derive(Clone, Copy)]
-pub struct Quad {
-    pub a: u8,
-    pub b: u8,
-    pub c: u8,
-    pub d: u8,
-}
-
 // Nine bytes: the longest frame.
 pub type FrameBytes = [u8; 9];
 
@@ -174,10 +165,4 @@ pub fn body_length(kind: u32) -> u32
     let n = if kind < 0x17 { n } else { UNKNOWN };
     let n = if kind < 0x20 { n } else { 1 };
     if kind < 0x21 { n } else { UNKNOWN }
-}
-
-pub(crate) fn wide(byte: u8) -> u32
-    ensures { result ≡ byte }
-{
-    byte as u32
 }

@@ -1,147 +1,101 @@
 // A request read off its bytes: its fields, and the frame at the start of a string.
-ghost use Rattle.std.specs.Prelude.{◌≡◌, [], ◌∷◌};
-ghost use Rattle.request.specs.Bytes.{◌#◌, pair, quad};
+ghost use Rattle.std.specs.Prelude.{◌≡◌};
+ghost use Rattle.request.specs.Bytes.{◌#◌};
 ghost use Rattle.request.specs.Reading.{request_of, frame_of, start_of};
 
-use crate::{FrameError, Request, UNKNOWN, body_length, wide};
+use crate::{FrameBytes, FrameError, Request, UNKNOWN, body_length};
 
-// Byte `at` of a frame, zero past its end, and the numbers that two and four bytes spell.
-fn byte_at(frame: &[u8], at: u8) -> u8
-    ensures { result ≡ frame.now # at }
+// Byte i of a frame, zero past its end.
+fn byte_at(frame: &[u8], i: usize) -> u8
+    ensures { result ≡ frame.now # i }
 {
-    let i = at as usize;
-    if i < frame.len() { frame[i] } else { 0 }
+    frame.get(i).copied().unwrap_or(0)
 }
 
-fn pair_of(high: u8, low: u8) -> u16
-    ensures { result ≡ pair high low }
+// The request that a frame's bytes spell, the first of them its kind; of an unknown kind, for which nobody asks, a take-back.
+pub fn request_of(frame: FrameBytes) -> Request
+    ensures { result ≡ request_of (frame # 0) frame }
 {
-    (high as u16) * 256 + (low as u16)
-}
-
-pub fn number_of(a: u8, b: u8, c: u8, d: u8) -> u32
-    ensures { result ≡ quad a b c d }
-{
-    (a as u32) * 16777216 + (b as u32) * 65536 + (c as u32) * 256 + (d as u32)
-}
-
-// The request of a kind and of the bytes behind it, b1 the first of them; of an unknown kind, for which nobody asks, a take-back.
-pub fn request_of(
-    kind: u8,
-    b1: u8,
-    b2: u8,
-    b3: u8,
-    b4: u8,
-    b5: u8,
-    b6: u8,
-    b7: u8,
-    b8: u8,
-) -> Request
-    ensures { result ≡ request_of kind (kind ∷ b1 ∷ b2 ∷ b3 ∷ b4 ∷ b5 ∷ b6 ∷ b7 ∷ b8 ∷ []) }
-{
-    match kind {
-        0x01 => Request::Enrol {
-            u: b1,
-            new: b2,
-            sort: b3,
-            level: b4,
-            categories: pair_of(b5, b6),
-            admin: b7,
+    match frame {
+        [0x01, u, new, sort, level, c1, c2, admin, ..] => Request::Enrol {
+            u,
+            new,
+            sort,
+            level,
+            categories: u16::from_be_bytes([c1, c2]),
+            admin,
         },
-        0x02 => Request::Establish { u: b1, room: b2 },
-        0x03 => Request::JoinStaff {
-            u: b1,
-            w: b2,
-            room: b3,
+        [0x02, u, room, ..] => Request::Establish { u, room },
+        [0x03, u, w, room, ..] => Request::JoinStaff { u, w, room },
+        [0x04, u, w, room, ..] => Request::LeaveStaff { u, w, room },
+        [0x05, u, w, room, level, c1, c2, ..] => Request::JoinOutsider {
+            u,
+            w,
+            room,
+            level,
+            categories: u16::from_be_bytes([c1, c2]),
         },
-        0x04 => Request::LeaveStaff {
-            u: b1,
-            w: b2,
-            room: b3,
+        [0x06, u, w, room, ..] => Request::LeaveOutsider { u, w, room },
+        [0x07, u, script, n1, n2, n3, n4, room, ..] => Request::Add {
+            u,
+            script,
+            number: u32::from_be_bytes([n1, n2, n3, n4]),
+            room,
         },
-        0x05 => Request::JoinOutsider {
-            u: b1,
-            w: b2,
-            room: b3,
-            level: b4,
-            categories: pair_of(b5, b6),
+        [0x08, u, script, n1, n2, n3, n4, room, ..] => Request::Remove {
+            u,
+            script,
+            number: u32::from_be_bytes([n1, n2, n3, n4]),
+            room,
         },
-        0x06 => Request::LeaveOutsider {
-            u: b1,
-            w: b2,
-            room: b3,
+        [0x09, u, script1, n1, n2, n3, n4, script2, room] => Request::Import {
+            u,
+            script1,
+            number: u32::from_be_bytes([n1, n2, n3, n4]),
+            script2,
+            room,
         },
-        0x07 => Request::Add {
-            u: b1,
-            script: b2,
-            number: number_of(b3, b4, b5, b6),
-            room: b7,
+        [0x0A, u, script, n1, n2, n3, n4, room, ..] => Request::Merge {
+            u,
+            script,
+            number: u32::from_be_bytes([n1, n2, n3, n4]),
+            room,
         },
-        0x08 => Request::Remove {
-            u: b1,
-            script: b2,
-            number: number_of(b3, b4, b5, b6),
-            room: b7,
+        [0x0B, u, room, ..] => Request::Disband { u, room },
+        [0x0C, u, w, room, ..] => Request::MakeLead { u, w, room },
+        [0x0D, u, w, room, ..] => Request::EndLead { u, w, room },
+        [0x10, u, session, room, level, c1, c2, ..] => Request::OpenInRoom {
+            u,
+            session,
+            room,
+            level,
+            categories: u16::from_be_bytes([c1, c2]),
         },
-        0x09 => Request::Import {
-            u: b1,
-            script1: b2,
-            number: number_of(b3, b4, b5, b6),
-            script2: b7,
-            room: b8,
+        [0x11, u, session, level, c1, c2, ..] => Request::OpenInHouse {
+            u,
+            session,
+            level,
+            categories: u16::from_be_bytes([c1, c2]),
         },
-        0x0A => Request::Merge {
-            u: b1,
-            script: b2,
-            number: number_of(b3, b4, b5, b6),
-            room: b7,
+        [0x12, u, session, level, c1, c2, ..] => Request::OpenReadOnly {
+            u,
+            session,
+            level,
+            categories: u16::from_be_bytes([c1, c2]),
         },
-        0x0B => Request::Disband { u: b1, room: b2 },
-        0x0C => Request::MakeLead {
-            u: b1,
-            w: b2,
-            room: b3,
+        [0x13, session, script, n1, n2, n3, n4, ..] => Request::Read {
+            session,
+            script,
+            number: u32::from_be_bytes([n1, n2, n3, n4]),
         },
-        0x0D => Request::EndLead {
-            u: b1,
-            w: b2,
-            room: b3,
+        [0x14, session, script, n1, n2, n3, n4, ..] => Request::Update {
+            session,
+            script,
+            number: u32::from_be_bytes([n1, n2, n3, n4]),
         },
-        0x10 => Request::OpenInRoom {
-            u: b1,
-            session: b2,
-            room: b3,
-            level: b4,
-            categories: pair_of(b5, b6),
-        },
-        0x11 => Request::OpenInHouse {
-            u: b1,
-            session: b2,
-            level: b3,
-            categories: pair_of(b4, b5),
-        },
-        0x12 => Request::OpenReadOnly {
-            u: b1,
-            session: b2,
-            level: b3,
-            categories: pair_of(b4, b5),
-        },
-        0x13 => Request::Read {
-            session: b1,
-            script: b2,
-            number: number_of(b3, b4, b5, b6),
-        },
-        0x14 => Request::Update {
-            session: b1,
-            script: b2,
-            number: number_of(b3, b4, b5, b6),
-        },
-        0x15 => Request::Create {
-            session: b1,
-            script: b2,
-        },
-        0x16 => Request::Kill { u: b1, session: b2 },
-        0x20 => Request::TakeBack { u: b1 },
+        [0x15, session, script, ..] => Request::Create { session, script },
+        [0x16, u, session, ..] => Request::Kill { u, session },
+        [0x20, u, ..] => Request::TakeBack { u },
         _ => Request::TakeBack { u: 0 },
     }
 }
@@ -154,7 +108,7 @@ pub fn start_of(bytes: &[u8]) -> Result<u32, FrameError>
         return Err(FrameError::Cut);
     }
     let kind = bytes[0];
-    let length = body_length(wide(kind));
+    let length = body_length(u32::from(kind));
     if length == UNKNOWN {
         return Err(FrameError::Unknown);
     }
@@ -168,7 +122,7 @@ pub fn start_of(bytes: &[u8]) -> Result<u32, FrameError>
 pub fn first(bytes: &[u8]) -> Request
     ensures { result ≡ request_of (bytes.now # 0) bytes.now }
 {
-    request_of(
+    request_of([
         byte_at(bytes, 0),
         byte_at(bytes, 1),
         byte_at(bytes, 2),
@@ -178,7 +132,7 @@ pub fn first(bytes: &[u8]) -> Request
         byte_at(bytes, 6),
         byte_at(bytes, 7),
         byte_at(bytes, 8),
-    )
+    ])
 }
 
 // Both at once, for who asks for one request alone.

@@ -4,5 +4,4 @@ pub mod Lists
 pub mod Sets
 pub mod Meaning
 pub mod Empty
-pub mod Loops
 pub mod Tables

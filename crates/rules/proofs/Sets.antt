@@ -2,13 +2,14 @@
 use Prim.Native.Nat.{ℕ, zero, suc, ◌+◌, ◌^◌, ◌≤◌, ◌<◌}
 use mathlib.Core.List.{List, [], ◌∷◌}
 use mathlib.Core.Path.{◌≡◌, refl, sym, ◌∙◌}
-use mathlib.Core.Bool.{Bool, true, false, ◌&&◌, ◌||◌}
+use mathlib.Core.Bool.{Bool, true, false}
 use native.Mathlib.Omega.{arith}
 use native.Mathlib.Decide.{ℕ_discrete, dec_le}
 use native.Mathlib.Nat.{div-eq_of_lt}
 use lib.Dec.{eqb}
 use lib.Pow.{pow_mono}
-use borrow.Author.Tests.{eqb-true, eq-eqb, ne_eqb}
+use Rattle.std.proofs.Math.Bool.{and-true, and-false}
+use Rattle.std.proofs.lemmas.Bool.{or_right, eqb-true, eq-eqb, ne_eqb}
 use Rattle.label.specs.Labels.{contains}
 use Rattle.records.specs.Places.{has, with, without, only, room_numbers}
 use Rattle.records.specs.Lists.{any, all}
@@ -30,11 +31,7 @@ module _ (s p : ℕ) (small : p ≤ 31) where
   with_new = rw (has_with s p small p, eq-eqb p p refl)
 
   pub with_old : Among s (with s p)
-  with_old q h = has_with s p small q ∙ rw h (go (eqb p q))
-    where
-      go : (b : Bool) → (b || true) ≡ true
-      go true = refl
-      go false = refl
+  with_old q h = has_with s p small q ∙ or_right (eqb p q) (has s q) h
 
   pub with_other : (q : ℕ) → (q ≡ p → ⊥) → has (with s p) q ≡ has s q
   with_other q n = rw (has_with s p small q, ne_eqb p q (λ e. n (sym e)))
@@ -48,18 +45,10 @@ module _ (s p : ℕ) (small : p ≤ 31) where
 
   -- ---- one place less
   pub without_other : (q : ℕ) → (q ≡ p → ⊥) → has (without s p) q ≡ has s q
-  without_other q n = rw (has_without s p small q, ne_eqb p q (λ e. n (sym e))) (go (has s q))
-    where
-      go : (b : Bool) → (b && true) ≡ b
-      go true = refl
-      go false = refl
+  without_other q n = rw (has_without s p small q, ne_eqb p q (λ e. n (sym e))) (and-true (has s q))
 
   pub without_old : (q : ℕ) → has (without s p) q ≡ true → q ≡ p → ⊥
-  without_old q h e = clash h (has_without s p small q ∙ rw (eq-eqb p q (sym e)) (go (has s q)))
-    where
-      go : (b : Bool) → (b && false) ≡ false
-      go true = refl
-      go false = refl
+  without_old q h e = clash h (has_without s p small q ∙ rw (eq-eqb p q (sym e)) (and-false (has s q)))
 
   pub without_among : Among (without s p) s
   without_among q h = sym (without_other q (without_old q h)) ∙ h

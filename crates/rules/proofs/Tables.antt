@@ -17,8 +17,7 @@ use Rattle.records.specs.declared.Draft.{Draft}
 use Rattle.rules.specs.Facts.{Is}
 use Rattle.rules.specs.Rules.{◌implies◌, user_fits, rooms_there, staff_if_trusted, bare_if_outsider, session_fits, session_there, owned_well, within, script_fits, origin_there, draft_there, in_its_room, at_home_or_one_room, administered, staff_only, all_led, outsiders_bare, sessions_owned, sessions_within, room_drafts, house_drafts, each_drafted, each_placed, numbers_rise, rules}
 use Rattle.rules.specs.Walks.{user_keeps, session_keeps, script_keeps, draft_keeps}
-use Rattle.rules.proofs.Bools.{itself, said, ◌and◌}
-use Rattle.rules.proofs.Loops.{between}
+use Rattle.rules.proofs.Bools.{itself, said, ◌and◌, between}
 
 -- two tests that pass alike are the same
 pub alike : (a b : Bool) → (a ≡ true → b ≡ true) → (b ≡ true → a ≡ true) → a ≡ b

@@ -52,27 +52,17 @@ fn user_keeps(records: &Cells, user: User) -> bool
 pub(crate) fn users_keep(records: &Cells) -> bool
     ensures { result ≡ all (user_keeps (view records.now)) (view records.now).users }
 {
-    'users: for i in 0..64 {
-        let user = records::user_at(records, i);
-        if !user_keeps(records, user) {
-            return false;
-        }
-    }
-    true
+    (0..64).all(|i| user_keeps(records, records::user_at(records, i)))
 }
 
 pub(crate) fn administered(records: &Cells) -> bool
     ensures { result ≡ administered (view records.now) }
 {
-    let mut anyone = false;
-    'users: for i in 0..64 {
-        let user = records::user_at(records, i);
-        if user.here & user.admin {
-            return true;
-        }
-        anyone = anyone | user.here;
-    }
-    !anyone
+    !(0..64).any(|i| records::user_at(records, i).here)
+        | (0..64).any(|i| {
+            let user = records::user_at(records, i);
+            user.here & user.admin
+        })
 }
 
 // ---- of each room
@@ -85,10 +75,5 @@ fn is_led(records: &Cells, room: u8) -> bool
 pub(crate) fn all_led(records: &Cells) -> bool
     ensures { result ≡ all_led (view records.now) }
 {
-    'rooms: for room in 1..17 {
-        if !is_led(records, room) {
-            return false;
-        }
-    }
-    true
+    (1..17).all(|room| is_led(records, room))
 }

@@ -61,11 +61,5 @@ fn session_keeps(records: &Cells, session: Session) -> bool
 pub(crate) fn sessions_keep(records: &Cells) -> bool
     ensures { result ≡ all (session_keeps (view records.now)) (view records.now).sessions }
 {
-    'sessions: for i in 0..64 {
-        let session = records::session_at(records, i);
-        if !session_keeps(records, session) {
-            return false;
-        }
-    }
-    true
+    (0..64).all(|i| session_keeps(records, records::session_at(records, i)))
 }

@@ -34,14 +34,7 @@ fn script_keeps(records: &Cells, script: Script) -> bool
 fn drafted(records: &Cells, i: usize) -> bool
     ensures { result ≡ any (of_script i) (view records.now).drafts }
 {
-    let end = records::draft_count(records);
-    'drafts: for k in 0..end {
-        let draft = records::draft_at(records, k);
-        if draft.script as usize == i {
-            return true;
-        }
-    }
-    false
+    (0..records::draft_count(records)).any(|k| records::draft_at(records, k).script as usize == i)
 }
 
 fn has_draft(records: &Cells, i: usize, script: Script) -> bool
@@ -70,12 +63,7 @@ fn in_its_room(records: &Cells, draft: Draft) -> bool
 fn one_room(places: u32) -> bool
     ensures { result ≡ any (λ room. eqb places (only room)) room_numbers }
 {
-    'rooms: for room in 1..17 {
-        if places == records::with(0, room) {
-            return true;
-        }
-    }
-    false
+    (1..17).any(|room| places == records::with(0, room))
 }
 
 fn at_home_or_one_room(records: &Cells, draft: Draft) -> bool
@@ -111,13 +99,10 @@ fn follows(draft: Draft, above: u32, last: u32) -> bool
 pub(crate) fn scripts_keep(records: &Cells) -> bool
     ensures { result ≡ (all (script_keeps (view records.now)) (view records.now).scripts && each_drafted (view records.now)) }
 {
-    'scripts: for i in 0..64 {
+    (0..64).all(|i| {
         let script = records::script_at(records, i);
-        if !(script_keeps(records, script) & has_draft(records, i, script)) {
-            return false;
-        }
-    }
-    true
+        script_keeps(records, script) & has_draft(records, i, script)
+    })
 }
 
 pub(crate) fn drafts_keep(records: &Cells, last: u32) -> bool

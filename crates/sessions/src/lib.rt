@@ -3,7 +3,7 @@
 
 ghost use Rattle.std.specs.Prelude.{◌≡◌, map};
 ghost use Rattle.records.specs.House.{view, put_session, no_session, with_sessions};
-ghost use Rattle.sessions.specs.Sessions.{writing, reading, uncovered, ends, ended};
+ghost use Rattle.sessions.specs.Sessions.{writing, reading, ends, ended};
 
 use records::{Cells, Session};
 
@@ -57,16 +57,6 @@ pub fn kill(records: &mut Cells, s: u8)
 }
 
 // ---- some end together
-// A session of w that the label does not cover, RO or RW.
-fn uncovered(session: Session, w: u8, level: u8, categories: u16) -> bool
-    ensures { result ≡ uncovered w level categories session }
-{
-    if session.owner != w {
-        return false;
-    }
-    !label::covers(level, categories, session.level, session.categories)
-}
-
 // What few sessions meet is asked first, so that most are passed at once.
 fn ends(session: Session, ending: Ending) -> bool
     ensures { result ≡ ends ending session }
@@ -80,7 +70,10 @@ fn ends(session: Session, ending: Ending) -> bool
             w,
             level,
             categories,
-        } => uncovered(session, w, level, categories),
+        } => {
+            session.owner == w
+                && !label::covers(level, categories, session.level, session.categories)
+        }
     }
 }
 

@@ -5,73 +5,43 @@ use records::Cells;
 use std::io;
 use std::io::Write;
 
-pub fn say<W: Write>(out: &mut W, text: &[u8]) -> io::Result<()> {
-    out.write_all(text)
-}
-
-pub fn decimal<W: Write>(out: &mut W, name: &[u8], n: u32) -> io::Result<()> {
-    say(out, name)?;
-    write!(out, "{n}")
-}
-
-pub fn hex<W: Write>(out: &mut W, name: &[u8], n: u32, width: usize) -> io::Result<()> {
-    say(out, name)?;
-    write!(out, "{n:0width$x}")
-}
-
 fn room<W: Write>(out: &mut W, records: &Cells, place: u8) -> io::Result<()> {
     if records::has(records::rooms(records), place) {
-        decimal(out, b" ", place as u32)?;
+        write!(out, " {place}")?;
     }
     Ok(())
 }
 
-fn user<W: Write>(out: &mut W, records: &Cells, u: u32) -> io::Result<()> {
-    let user = records::user_at(records, u as usize);
+fn user<W: Write>(out: &mut W, records: &Cells, u: usize) -> io::Result<()> {
+    let user = records::user_at(records, u);
     if !user.here {
         return Ok(());
     }
-    decimal(out, b"user ", u)?;
-    decimal(out, b" sort ", user.sort as u32)?;
-    decimal(out, b" level ", user.level as u32)?;
-    hex(out, b" categories ", user.categories as u32, 4)?;
-    hex(out, b" rooms ", user.rooms, 8)?;
-    hex(out, b" leads ", user.leads, 8)?;
-    if user.admin {
-        say(out, b" admin 1\n")
-    } else {
-        say(out, b" admin 0\n")
-    }
+    write!(out, "user {u} sort {} level {}", user.sort, user.level)?;
+    write!(out, " categories {:04x}", user.categories)?;
+    write!(out, " rooms {:08x} leads {:08x}", user.rooms, user.leads)?;
+    writeln!(out, " admin {}", user.admin as u8)
 }
 
-fn script<W: Write>(out: &mut W, records: &Cells, s: u32) -> io::Result<()> {
-    let script = records::script_at(records, s as usize);
+fn script<W: Write>(out: &mut W, records: &Cells, s: usize) -> io::Result<()> {
+    let script = records::script_at(records, s);
     if !script.here {
         return Ok(());
     }
-    decimal(out, b"script ", s)?;
-    decimal(out, b" level ", script.level as u32)?;
-    hex(out, b" categories ", script.categories as u32, 4)?;
-    decimal(out, b" origin ", script.origin as u32)?;
-    say(out, b"\n")
+    write!(out, "script {s} level {}", script.level)?;
+    write!(out, " categories {:04x}", script.categories)?;
+    writeln!(out, " origin {}", script.origin)
 }
 
-fn session<W: Write>(out: &mut W, records: &Cells, s: u32) -> io::Result<()> {
-    let session = records::session_at(records, s as usize);
+fn session<W: Write>(out: &mut W, records: &Cells, s: usize) -> io::Result<()> {
+    let session = records::session_at(records, s);
     if !session.here {
         return Ok(());
     }
-    decimal(out, b"session ", s)?;
-    decimal(out, b" owner ", session.owner as u32)?;
-    decimal(out, b" level ", session.level as u32)?;
-    hex(out, b" categories ", session.categories as u32, 4)?;
-    if session.writes {
-        say(out, b" RW")?;
-    } else {
-        say(out, b" RO")?;
-    }
-    decimal(out, b" place ", session.place as u32)?;
-    say(out, b"\n")
+    let mode = if session.writes { "RW" } else { "RO" };
+    write!(out, "session {s} owner {}", session.owner)?;
+    write!(out, " level {} categories {:04x}", session.level, session.categories)?;
+    writeln!(out, " {mode} place {}", session.place)
 }
 
 // Whether draft i has the script and the places of the draft before it, and the next number. Past the end the number is 0.
@@ -95,38 +65,35 @@ fn draft<W: Write>(out: &mut W, records: &Cells, i: usize) -> io::Result<()>
 {
     let draft = records::draft_at(records, i);
     if !follows(records, i) {
-        decimal(out, b"draft ", draft.number)?;
+        write!(out, "draft {}", draft.number)?;
     }
     if follows(records, i + 1) {
         return Ok(());
     }
     if follows(records, i) {
-        decimal(out, b" to ", draft.number)?;
+        write!(out, " to {}", draft.number)?;
     }
-    decimal(out, b" script ", draft.script as u32)?;
-    hex(out, b" places ", draft.places, 8)?;
-    say(out, b"\n")
+    writeln!(out, " script {} places {:08x}", draft.script, draft.places)
 }
 
 pub fn tables<W: Write>(out: &mut W, records: &Cells) -> io::Result<()> {
-    say(out, b"rooms")?;
-    'rooms: for i in 0..32 {
-        room(out, records, i)?;
+    write!(out, "rooms")?;
+    for place in 0..32 {
+        room(out, records, place)?;
     }
-    say(out, b"\n")?;
-    'users: for i in 0..64 {
-        user(out, records, i)?;
+    writeln!(out)?;
+    for u in 0..64 {
+        user(out, records, u)?;
     }
-    'scripts: for i in 0..64 {
-        script(out, records, i)?;
+    for s in 0..64 {
+        script(out, records, s)?;
     }
-    'sessions: for i in 0..64 {
-        session(out, records, i)?;
+    for s in 0..64 {
+        session(out, records, s)?;
     }
     let live = records::draft_count(records);
-    'drafts: for i in 0..live {
+    for i in 0..live {
         draft(out, records, i)?;
     }
-    decimal(out, b"drafts ", live as u32)?;
-    say(out, b"\n")
+    writeln!(out, "drafts {live}")
 }

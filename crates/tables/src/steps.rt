@@ -6,36 +6,30 @@ use records::Cells;
 use std::io;
 use std::io::Write;
 
-fn administrative<W: Write>(out: &mut W, kind: u8) -> io::Result<()> {
+fn name(kind: u8) -> &'static str {
     match kind {
-        0x01 => lines::say(out, b" Enrol "),
-        0x02 => lines::say(out, b" Establish "),
-        0x03 => lines::say(out, b" Join staff "),
-        0x04 => lines::say(out, b" Leave staff "),
-        0x05 => lines::say(out, b" Join outsider "),
-        0x06 => lines::say(out, b" Leave outsider "),
-        0x07 => lines::say(out, b" Add "),
-        0x08 => lines::say(out, b" Remove "),
-        0x09 => lines::say(out, b" Import "),
-        0x0A => lines::say(out, b" Merge "),
-        0x0B => lines::say(out, b" Disband "),
-        0x0C => lines::say(out, b" Make lead "),
-        0x0D => lines::say(out, b" End lead "),
-        _ => Ok(()),
-    }
-}
-
-fn operational<W: Write>(out: &mut W, kind: u8) -> io::Result<()> {
-    match kind {
-        0x10 => lines::say(out, b" Open RW in room "),
-        0x11 => lines::say(out, b" Open RW in house "),
-        0x12 => lines::say(out, b" Open RO "),
-        0x13 => lines::say(out, b" Read "),
-        0x14 => lines::say(out, b" Update "),
-        0x15 => lines::say(out, b" Create "),
-        0x16 => lines::say(out, b" Kill "),
-        0x20 => lines::say(out, b" Take back "),
-        _ => Ok(()),
+        0x01 => "Enrol",
+        0x02 => "Establish",
+        0x03 => "Join staff",
+        0x04 => "Leave staff",
+        0x05 => "Join outsider",
+        0x06 => "Leave outsider",
+        0x07 => "Add",
+        0x08 => "Remove",
+        0x09 => "Import",
+        0x0A => "Merge",
+        0x0B => "Disband",
+        0x0C => "Make lead",
+        0x0D => "End lead",
+        0x10 => "Open RW in room",
+        0x11 => "Open RW in house",
+        0x12 => "Open RO",
+        0x13 => "Read",
+        0x14 => "Update",
+        0x15 => "Create",
+        0x16 => "Kill",
+        0x20 => "Take back",
+        _ => "none",
     }
 }
 
@@ -49,25 +43,15 @@ fn length_of(kind: u8) -> usize
 
 // The step's number, the kind's name, and the request's bytes.
 fn announce<W: Write>(out: &mut W, ordinal: u32, kind: u8, body: u64) -> io::Result<()> {
-    lines::decimal(out, b"step ", ordinal)?;
-    administrative(out, kind)?;
-    operational(out, kind)?;
-    lines::hex(out, b"", kind as u32, 2)?;
     let width = 2 * length_of(kind);
-    write!(out, "{body:0width$x}")
+    write!(out, "step {ordinal} {} {kind:02x}{body:0width$x}", name(kind))
 }
 
 // The request's bytes: the kind, then the body's number, most significant byte first.
 fn frame_of(kind: u8, body: u64) -> [u8; 9] {
-    let mut frame = [0u8; 9];
-    frame[0] = kind;
-    let mut rest = body;
-    let mut i = length_of(kind);
-    'bytes: while 0 < i {
-        frame[i] = (rest % 256) as u8;
-        rest /= 256;
-        i -= 1;
-    }
+    let length = length_of(kind);
+    let mut frame = [kind, 0, 0, 0, 0, 0, 0, 0, 0];
+    frame[1..=length].copy_from_slice(&body.to_be_bytes()[8 - length..]);
     frame
 }
 
@@ -80,7 +64,7 @@ fn change<W: Write>(
 ) -> io::Result<()> {
     let frame = frame_of(kind, body);
     let Ok(request) = request::read(&frame) else {
-        return lines::say(out, b"no request\n");
+        return writeln!(out, "no request");
     };
     effects::apply(records, request, number);
     Ok(())
@@ -97,9 +81,9 @@ pub fn step<W: Write>(
 ) -> io::Result<()> {
     announce(out, ordinal, kind, body)?;
     if number != 0 {
-        lines::decimal(out, b" receives ", number)?;
+        write!(out, " receives {number}")?;
     }
-    lines::say(out, b"\n")?;
+    writeln!(out)?;
     change(out, records, kind, body, number)?;
     lines::tables(out, records)
 }
@@ -115,10 +99,8 @@ pub fn fill<W: Write>(
     last: u32,
 ) -> io::Result<()> {
     announce(out, ordinal, kind, body)?;
-    lines::decimal(out, b" receives ", first)?;
-    lines::decimal(out, b" to ", last)?;
-    lines::say(out, b"\n")?;
-    'drafts: for number in first..=last {
+    writeln!(out, " receives {first} to {last}")?;
+    for number in first..=last {
         change(out, records, kind, body, number)?;
     }
     lines::tables(out, records)

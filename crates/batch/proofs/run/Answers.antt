@@ -1,24 +1,30 @@
 -- `run` meets its contract: a turn of the loop is a request of the batch in specs/.
-use Rattle.history.specs.Desk.{shown}
+use Rattle.history.specs.Lent.{lent}
+use Rattle.history.proofs.Lent.{same_on, by_same_rule}
 use Rattle.batch.proofs.Turn.{Over, as_left, as_returned, at_end_lem, no_room, unknown, cut, next}
 use Rattle.batch.proofs.run.Goals.{then-requests-used, else-requests-used+then-room_left-lt5, else-requests-used+else-room_left-lt5+in-Unknown, else-requests-used+else-room_left-lt5+in-Cut}
 use Rattle.batch.proofs.run.Goals as goal
 
 pub loop-used-preserved : goal.loop-used-preserved
 loop-used-preserved c =
+    let h = c.loop-used.invariant in
+    let took = c.take-answer.ensures in
     let put = c.put_answer-at-in-Whole in
-    next c.loop-used.invariant c.if-requests-used.false c.room_left.result c.room_left.ensures c.if-room_left-lt5.false
-    c.start_of-start.result c.start_of-start.ensures _ c.in-Whole.is c.first-request.result c.first-request.ensures
-    _ c.take-answer.result c.take-answer.ensures put.result put.ensures.0 put.new.out put.ensures.1
+    (
+      same_on h.0 took.parts,
+      next h.1 c.if-requests-used.false c.room_left.result c.room_left.ensures c.if-room_left-lt5.false
+          c.start_of-start.result c.start_of-start.ensures _ c.in-Whole.is c.first-request.result c.first-request.ensures
+          _ c.take-answer.result (by_same_rule _ _ h.0 took.done) put.result put.ensures.0 put.new.out put.ensures.1,
+    )
 
 -- where the four ways out of the loop meet
 pub returns : goal.returns
 returns c =
-    let h = c.loop-used.invariant in
+    let h = c.loop-used.invariant.1 in
     let a = c.args in
     let left = c.if-requests-used in
-    let over : Over a.rule a.requests.now a.answers.now a.place (shown a.base.now a.log.now a.current.now a.last.now)
-    (shown c.loop-used.base c.loop-used.log c.loop-used.current c.loop-used.last) c.loop-used.used left.answers left.at left.stop =
+    let over : Over a.desk.now.rule a.requests.now a.answers.now a.place (lent a.desk.now)
+    (lent c.loop-used.desk) c.loop-used.used left.answers left.at left.stop =
     elim left.branch [
       | then-requests-used w ↦ as_left w.answers-is w.at-is w.stop-is (at_end_lem h w.if-requests-used.true)
       | else-requests-used+then-room_left-lt5 w ↦
@@ -32,4 +38,4 @@ returns c =
           (cut h w.if-requests-used.false w.room_left.result w.room_left.ensures w.if-room_left-lt5.false w.start_of-start.result w.start_of-start.ensures
           w.in-Cut.is w.put_answer-at-in-Cut.result w.put_answer-at-in-Cut.ensures.0 w.put_answer-at-in-Cut.new.out w.put_answer-at-in-Cut.ensures.1)
     ] in
-    as_returned c.new.ensures over.0
+    record { parts = c.loop-used.invariant.0; done = as_returned c.new.ensures over.0 }

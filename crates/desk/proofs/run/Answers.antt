@@ -14,17 +14,17 @@ inside c = omega (arith, c.loop-turns.invariant.few, c.loop-turns.invariant.buf_
 size : (c : After-answer_piece-turn) → length (filled c.loop-turns.buf c.loop-turns.have c.read_piece.new.buf) ≡ length c.loop-turns.buf
 size c = filled_length c.loop-turns.buf c.loop-turns.have c.read_piece.new.buf (inside c) c.read_piece.auto.buf
 
-room : (c : After-answer_piece-turn) → c.loop-turns.have + c.in-Bytes.got ≤ length (filled c.loop-turns.buf c.loop-turns.have c.read_piece.new.buf)
-room c = omega (arith, size c, inside c, c.in-Bytes.ensures.0, c.read_piece.auto.buf, part_length c.loop-turns.have c.loop-turns.buf)
+room : (c : After-answer_piece-turn) → c.loop-turns.have + c.in_ok-got.got ≤ length (filled c.loop-turns.buf c.loop-turns.have c.read_piece.new.buf)
+room c = omega (arith, size c, inside c, c.in_ok-got.ensures.0, c.read_piece.auto.buf, part_length c.loop-turns.have c.loop-turns.buf)
 
 led : (c : After-answer_piece-turn) → LedTo c.args.rule c.args.why (shown c.args.base.now c.args.log.now c.args.current.now c.args.last.now) (shown c.answer_piece-turn.new.base c.answer_piece-turn.new.log c.answer_piece-turn.new.current c.answer_piece-turn.new.last)
 led c =
     let l = c.loop-turns in
     let a = c.answer_piece-turn in
-    led_on l.invariant (filled l.buf l.have c.read_piece.new.buf) (filled_same l.buf l.have c.read_piece.new.buf (inside c)) c.in-Bytes.got (room c) (size c ∙ l.invariant.buf_length) a.result a.new.buf a.new.out a.ensures
+    led_on l.invariant (filled l.buf l.have c.read_piece.new.buf) (filled_same l.buf l.have c.read_piece.new.buf (inside c)) c.in_ok-got.got (room c) (size c ∙ l.invariant.buf_length) a.result a.new.buf a.new.out a.ensures
 
-pub returns-then-not-print_text : goal.returns-then-not-print_text
-returns-then-not-print_text c = led (goal.at.returns-then-not-print_text c).After-answer_piece-turn
+pub returns-in_err-print_text : goal.returns-in_err-print_text
+returns-in_err-print_text c = led (goal.at.returns-in_err-print_text c).After-answer_piece-turn
 
 pub returns-then-not-turn : goal.returns-then-not-turn
 returns-then-not-turn c = led (goal.at.returns-then-not-turn c).After-answer_piece-turn
@@ -34,5 +34,5 @@ loop-turns-preserved c =
     let l = c.loop-turns in
     let a = c.answer_piece-turn in
     let x = (goal.at.loop-turns-preserved c).After-answer_piece-turn in
-    again l.invariant (filled l.buf l.have c.read_piece.new.buf) (filled_same l.buf l.have c.read_piece.new.buf (inside x)) c.in-Bytes.got (room x) (size x ∙ l.invariant.buf_length) a.result a.new.buf a.new.out a.ensures
-    (omega (arith, c.loop-turns-test.true)) (a.auto.buf ∙ size x ∙ l.invariant.buf_length) (a.auto.out ∙ l.invariant.out_length) (not-false _ c.if-not-turn.false)
+    again l.invariant (filled l.buf l.have c.read_piece.new.buf) (filled_same l.buf l.have c.read_piece.new.buf (inside x)) c.in_ok-got.got (room x) (size x ∙ l.invariant.buf_length) a.result a.new.buf a.new.out a.ensures
+    (a.auto.buf ∙ size x ∙ l.invariant.buf_length) (a.auto.out ∙ l.invariant.out_length) (not-false _ c.if-not-turn.false)

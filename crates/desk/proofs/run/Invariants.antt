@@ -7,6 +7,3 @@ abbrev pub invariant-loop-turns : goal.invariant-loop-turns
 invariant-loop-turns l =
     Between l.rule l.why (shown l.initial.base l.initial.log l.initial.current l.initial.last)
     (shown l.base l.log l.current l.last) l.ordinal l.have l.turns l.buf l.out
-
-abbrev pub decreases-loop-turns : goal.decreases-loop-turns
-decreases-loop-turns l = l.turns

@@ -6,11 +6,9 @@ use Rattle.kept.proofs.kept_count.Goals as goal
 pub returns-then-n-lt32 : goal.returns-then-n-lt32
 returns-then-n-lt32 c =
     let z = past_length c.args.log.now in
-    let w = c.wide-n.ensures in
     (omega arith, omega arith)
 
 pub returns-else-n-lt32 : goal.returns-else-n-lt32
 returns-else-n-lt32 c =
     let z = past_length c.args.log.now in
-    let w = c.wide-n.ensures in
     (omega arith, omega arith)

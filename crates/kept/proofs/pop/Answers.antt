@@ -7,4 +7,4 @@ pub returns : goal.returns
 returns c =
     let a = c.args in
     let n = c.kept_count-n in
-    rw (← n.ensures.0) (pop_one a.log.now c.sized.ensures n.result n.ensures.0 (omega arith))
+    rw (← n.ensures.0) (pop_one a.log.now (omega arith) n.result n.ensures.0 (omega arith))

@@ -15,7 +15,7 @@ returns-then-n-lt32 c =
     let n = c.kept_count-n in
     let room : length (past a.log.now) < 32 = omega (arith, n.ensures.0) in
     rw (c.write_slot.ensures, lt-ltb _ _ room)
-    (push_room a.log.now c.sized.ensures a.change slot.result slot.ensures.1 n.result n.ensures.0 (omega arith) slot.ensures.0)
+    (push_room a.log.now (omega arith) a.change slot.result slot.ensures.1 n.result n.ensures.0 (omega arith) slot.ensures.0)
 
 pub returns : goal.returns
 returns c =
@@ -25,4 +25,4 @@ returns c =
     let full : length (past a.log.now) ≡ 32 = omega (arith, n.ensures.0, n.ensures.1) in
     let same : n.result ≡ 32 = omega (arith, n.ensures.0) in
     rw (c.write_slot.ensures, le-ltb (length (past a.log.now)) 32 (omega arith))
-    (push_full a.log.now c.sized.ensures a.change slot.result slot.ensures.1 full (rw same at slot.ensures.0))
+    (push_full a.log.now (omega arith) a.change slot.result slot.ensures.1 full (rw same at slot.ensures.0))

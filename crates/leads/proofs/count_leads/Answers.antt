@@ -1,33 +1,20 @@
--- `count_leads` meets its contract: the leads among those passed are counted, and the rest is left to count.
-use borrow.Author.Tests.{not-false}
-use Prim.Native.Nat.{ℕ, ◌≤◌, ◌<◌}
-use mathlib.Core.Path.{◌≡◌, sym, ◌∙◌}
-use mathlib.Core.Bool.{Bool, true}
-use native.Mathlib.Omega.{arith}
-use lib.ListN.{length, drop_of_length-le}
+-- `count_leads` meets its contract: the users of whom the test holds are counted.
+use mathlib.Core.Path.{refl, ◌∙◌}
+use Rattle.std.proofs.Common.{rules, tests}
+use Rattle.std.proofs.lemmas.Iterator.{YieldsList-from_range}
+use Rattle.std.proofs.lemmas.Iterator.Consumers.{YieldsList-at, YieldsList-from_filter, count_from_yields_List}
 use Rattle.records.specs.Places.{has}
-use Rattle.records.specs.House.{view, user, no_user}
+use Rattle.records.specs.House.{view, no_user}
 use Rattle.records.specs.declared.User.{User}
 use Rattle.records.proofs.Views.{count_users}
-use Rattle.leads.proofs.Counting.{count_next}
+use Rattle.leads.proofs.Chains.{asked, count_of}
 use Rattle.leads.proofs.count_leads.Goals as goal
-
-abbrev Leads : ℕ → User → Bool
-Leads room u = has u.leads room
-
-pub users-preserved : goal.users-preserved
-users-preserved c =
-    let a = c.args in
-    let us = (view a.records.now).users in
-    let l = c.users in
-    let h : l.i < length us = omega (arith, count_users a.records.now) in
-    let t : Leads a.room (user (view a.records.now) l.i) ≡ true = rw (← c.user_at-user.ensures, ← c.has.ensures) (not-false _ c.if-not-has.false-raw) in
-    ((omega arith, omega arith), l.invariant.1 ∙ rw (count_next us l.i no_user h (Leads a.room), t) (omega arith))
 
 pub returns : goal.returns
 returns c =
-    let a = c.args in
-    let s = a.records.now in
-    let l = c.users in
-    let h : length (view s).users ≤ l.i = omega (arith, count_users s) in
-    sym (l.invariant.1 ∙ rw (drop_of_length-le (view s).users h) (omega arith))
+    let s = c.args.records.now in
+    let l = (view s).users in
+    let p = λ (u : User). has u.leads c.args.room in
+    count_from_yields_List c.filter.result _ c.count.ensures.ran
+    (YieldsList-from_filter _ (asked no_user l 64 (count_users s) p) (YieldsList-at c.filter.ensures.source (YieldsList-from_range 0 64 64 refl refl)) c.filter.ensures.closure (λ x b q k. search (rules, tests)))
+    ∙ count_of no_user l 64 (count_users s) p

@@ -1,12 +1,14 @@
--- `is_image` meets its contract: what was written is the image, and it is compared; no image is too long for the buffer.
-use Prim.Native.Nat.{ℕ}
-use mathlib.Core.Path.{sym, ◌∙◌}
-use native.Mathlib.Omega.{arith}
-use lib.ListN.{replicate, length-replicate}
-use Rattle.image.proofs.Ways.{never_refused}
+-- `is_image` meets its contract: what was written is the image, and it is compared.
+use Rattle.std.proofs.Common.{◌≡◌, take, arith, ap, ◌∙◌}
+use Rattle.std.proofs.lemmas.Grind.{common_steps}
+use Rattle.records.specs.House.{view}
+use Rattle.image.specs.Image.{image_of}
+use Rattle.opening.specs.Opening.{same_bytes}
+use Rattle.opening.proofs.Alike.{same_is_equal}
 use Rattle.opening.proofs.is_image.Goals as goal
 
-pub returns-in_default : goal.returns-in_default
-returns-in_default c =
+pub returns : goal.returns
+returns c =
     let a = c.args in
-    absurd (never_refused a.records.now a.last a.rule (replicate 4454 0) _ (omega (arith, length-replicate {A = ℕ} 4454 0)) (sym c.in_default.is ∙ c.save.ensures.0))
+    let front : take c.in-Ok.n c.save.new.out ≡ image_of (view a.records.now) a.last a.rule = grind (arith, common_steps) in
+    c.eq.ensures ∙ same_is_equal (take c.in-Ok.n c.save.new.out) a.bytes.now ∙ ap (λ b. same_bytes b a.bytes.now) front

@@ -1,7 +1,7 @@
 -- `end_sessions` meets its contract: a map in place that stores only where something changes.
-use borrow.Author.Tests.{not-true, not-false}
+use Rattle.std.proofs.Common.{rules, tests}
 use native.Mathlib.Omega.{arith}
-use mathlib.Core.Path.{◌≡◌, ◌∙◌, sym, ap}
+use mathlib.Core.Path.{◌≡◌}
 use mathlib.Core.Bool.{true, false}
 use Rattle.records.specs.House.{view, session, no_session}
 use Rattle.records.proofs.Views.{count_sessions}
@@ -11,24 +11,17 @@ use Rattle.sessions.proofs.end_sessions.Goals as goal
 
 pub sessions-preserved-then-not-ends : goal.sessions-preserved-then-not-ends
 sessions-preserved-then-not-ends c =
-    let a = c.args in
     let l = c.sessions in
-    let z = count_sessions a.records.now in
-    let stays : ends a.ending (session (view l.records) l.i) ≡ false =
-    sym (ap (ends a.ending) c.session_at-session.ensures) ∙ sym c.ends.ensures ∙ not-true _ c.if-not-ends.true-raw in
+    let z = count_sessions c.args.records.now in
+    let stays : ends c.args.ending (session (view l.records) l.i) ≡ false = rw (← c.session_at-session.ensures, ← c.ends.ensures) (search (rules, tests)) in
     (omega arith, skip sessions _ _ l.i _ no_session l.invariant.1 (omega arith) (rw stays))
 
 pub sessions-preserved : goal.sessions-preserved
 sessions-preserved c =
-    let a = c.args in
     let l = c.sessions in
-    let z = count_sessions a.records.now in
-    let goes : ends a.ending (session (view l.records) l.i) ≡ true =
-    sym (ap (ends a.ending) c.session_at-session.ensures) ∙ sym c.ends.ensures
-    ∙ not-false _ c.if-not-ends.false-raw in (
-      omega arith,
-      store sessions _ _ l.i _ no_session l.invariant.1 (omega arith) _ _ (rw goes c.no_session.ensures) c.put_session.ensures,
-    )
+    let z = count_sessions c.args.records.now in
+    let goes : ends c.args.ending (session (view l.records) l.i) ≡ true = rw (← c.session_at-session.ensures, ← c.ends.ensures) (search (rules, tests)) in
+    (omega arith, store sessions _ _ l.i _ no_session l.invariant.1 (omega arith) _ _ (rw goes c.no_session.ensures) c.put_session.ensures)
 
 pub returns : goal.returns
 returns c =

@@ -1,8 +1,6 @@
-use Rattle.std.proofs.Common.{sym}
-use Rattle.desk.proofs.Folders.{last_slash}
+use Rattle.std.proofs.Common.{sym, rules}
+use Rattle.desk.proofs.Folders.{after_last}
 use Rattle.desk.proofs.names.folder_length.Goals as goal
 
-pub returns-then-name-i-eq47-clause-value : goal.returns-then-name-i-eq47-clause-value
-returns-then-name-i-eq47-clause-value c =
-    let l = c.loop-i in
-    sym (last_slash c.args.name.now l.i c.loop-i-test.true l.invariant.0 l.invariant.1 c.if-name-i-eq47.true)
+pub returns-in-Some-clause-value : goal.returns-in-Some-clause-value
+returns-in-Some-clause-value c = sym (after_last c.args.name.now c.in-Some.i (search rules) (search rules) (search rules))

@@ -15,16 +15,16 @@ returns-then-bytes-eq0 c =
 pub returns-then-length-eq-UNKNOWN : goal.returns-then-length-eq-UNKNOWN
 returns-then-length-eq-UNKNOWN c =
     let b = c.args.bytes.now in
-    ap (length_in (b # 0)) (unknown b c.if-bytes-eq0.false _ _ c.wide.ensures c.body_length-length.ensures c.if-length-eq-UNKNOWN.true)
+    ap (length_in (b # 0)) (unknown b c.if-bytes-eq0.false _ _ c.from.ensures c.body_length-length.ensures c.if-length-eq-UNKNOWN.true)
 
 pub returns-then-bytes-length : goal.returns-then-bytes-length
 returns-then-bytes-length c =
     let b = c.args.bytes.now in
-    ap (length_in (b # 0)) (cut b c.if-bytes-eq0.false _ _ c.wide.ensures c.body_length-length.ensures c.if-length-eq-UNKNOWN.false c.if-bytes-length.true)
+    ap (length_in (b # 0)) (cut b c.if-bytes-eq0.false _ _ c.from.ensures c.body_length-length.ensures c.if-length-eq-UNKNOWN.false c.if-bytes-length.true)
 
 pub returns : goal.returns
 returns c =
     let b = c.args.bytes.now in
     let n = c.body_length-length.ensures in
-    ap Ok (n ∙ ap body_length c.wide.ensures)
-    ∙ ap (length_in (b # 0)) (whole b c.if-bytes-eq0.false _ _ c.wide.ensures n c.if-length-eq-UNKNOWN.false c.if-bytes-length.false (request_of (b # 0) b) refl)
+    ap Ok (n ∙ ap body_length c.from.ensures)
+    ∙ ap (length_in (b # 0)) (whole b c.if-bytes-eq0.false _ _ c.from.ensures n c.if-length-eq-UNKNOWN.false c.if-bytes-length.false (request_of (b # 0) b) refl)

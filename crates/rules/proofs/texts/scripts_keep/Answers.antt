@@ -1,33 +1,26 @@
--- `scripts_keep` meets its contract: those passed keep the rules and have a draft, and the rest is left to ask.
-use Prim.Native.Nat.{ℕ, suc, ◌+◌, ◌≤◌}
-use mathlib.Core.Path.{◌≡◌, sym, ap, ◌∙◌}
+-- `scripts_keep` meets its contract: a test of every place is one of every script, and a test of two rules is one of each.
+use Prim.Native.Nat.{ℕ, suc}
+use mathlib.Core.Path.{◌≡◌, refl, ap, ◌∙◌}
 use mathlib.Core.Bool.{Bool, ◌&&◌}
-use mathlib.Core.List.{List, ◌∷◌}
-use native.Mathlib.Omega.{arith}
-use native.Mathlib.Numerals.{add-one}
-use lib.ListN.{length, drop_of_length-le}
+use mathlib.Core.List.{List, [], ◌∷◌}
+use Rattle.std.proofs.Common.{rules, tests}
 use Rattle.records.specs.Lists.{all, all_from}
-use Rattle.records.specs.House.{House, view}
+use Rattle.records.specs.House.{view, no_script}
 use Rattle.records.specs.declared.Script.{Script}
 use Rattle.records.proofs.Views.{count_scripts}
+use Rattle.leads.proofs.Chains.{all_from_of}
 use Rattle.rules.specs.Rules.{has_draft}
 use Rattle.rules.specs.Walks.{script_keeps}
-use Rattle.rules.proofs.Loops.{between}
--- of scripts, the first being script i
+use Rattle.rules.proofs.Bools.{between}
 use Rattle.rules.proofs.texts.scripts_keep.Goals as goal
 
-abbrev From : House → ℕ → List Script → Bool
-From h i l = all (script_keeps h) l && all_from i (has_draft h) l
-
-abbrev Asked : House → ℕ → Script → Bool
-Asked h i x = script_keeps h x && has_draft h i x
-
-first : (h : House) (i : ℕ) (x : Script) (xs : List Script) → From h i (x ∷ xs) ≡ (Asked h i x && From h (i + 1) xs)
-first h i x xs = rw (add-one i) (between (script_keeps h x) (all (script_keeps h) xs) (has_draft h i x) (all_from (suc i) (has_draft h) xs))
+both : (f : Script → Bool) (g : ℕ → Script → Bool) (n : ℕ) (l : List Script) → all_from n (λ i x. f x && g i x) l ≡ (all f l && all_from n g l)
+both f g n [] = refl
+both f g n (x ∷ xs) = ap (λ (b : Bool). (f x && g n x) && b) (both f g (suc n) xs) ∙ between (f x) (g n x) (all f xs) (all_from (suc n) g xs)
 
 pub returns : goal.returns
 returns c =
     let s = c.args.records.now in
-    let l = c.scripts in
-    let h : length (view s).scripts ≤ l.i = omega (arith, count_scripts s) in
-    sym (l.invariant.1 ∙ ap (From (view s) l.i) (drop_of_length-le (view s).scripts h))
+    let h = view s in
+    all_from_of no_script h.scripts 64 (count_scripts s) (λ i x. script_keeps h x && has_draft h i x) c.all.ensures.ran (λ i b k e. search (rules, tests))
+    ∙ both (script_keeps h) (has_draft h) 0 h.scripts

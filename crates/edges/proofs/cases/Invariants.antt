@@ -1,6 +1,0 @@
--- `cases` goes on behind each line's end.
-use Rattle.std.proofs.Common.{length, ◌-◌}
-use Rattle.edges.proofs.cases.Given as goal
-
-abbrev pub decreases-loop-at : goal.decreases-loop-at
-decreases-loop-at g l = length l.input - l.at
