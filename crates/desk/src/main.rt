@@ -20,9 +20,8 @@ ghost use Rattle.desk.specs.Turns.{LedTo};
 
 use arguments::Arguments;
 use history::Answer;
-use image::Written;
 use kept::Log;
-use opening::{Opened, Opening};
+use opening::OpenError;
 use records::{Cells, Rule};
 use std::env::{Env, FillError};
 use std::io::Read;
@@ -104,7 +103,7 @@ fn image_of(current: &Cells, last: u32, rule: Rule, out: &mut [u8]) -> usize
     ensures out_after { take result out.new ≡ image_of (view current.now) last rule }
     ensures prefix_len { IsPrefixLen result out.new }
 {
-    let Written::Bytes(n) = image::save(current, last, rule, out) else {
+    let Ok(n) = image::save(current, last, rule, out) else {
         return 0;
     };
     n
@@ -192,16 +191,15 @@ fn open_file(
     log: &mut Log,
     current: &mut Cells,
     last: &mut u32,
-) -> Opened
-    ensures { opens_desk result.answer (shown base.new log.new current.new last.new) result.rule ≡ file_by (shown base.old log.old current.old last.old) bytes.now }
+    rule: &mut Rule,
+) -> Result<(), OpenError>
+    ensures { opens_desk result (shown base.new log.new current.new last.new) rule.new ≡ file_by (shown base.old log.old current.old last.old) bytes.now }
 {
     if 65536 < bytes.len() {
-        return Opened {
-            answer: Opening::Refused(15),
-            rule: Rule::One,
-        };
+        *rule = Rule::One;
+        return Err(OpenError::NoImage);
     }
-    opening::open_desk(bytes, base, log, current, last)
+    opening::open_desk(bytes, base, log, current, last, rule)
 }
 
 // The desk of an image. What is refused is told, and nothing is answered: the numbers of the empty desk would start again.
@@ -215,11 +213,16 @@ fn serve_image(rt: &HostRuntime, why: bool, save: Option<usize>, from: usize) ->
     let mut log = desk.log;
     let mut current = desk.current;
     let mut last = desk.last;
-    let opened = open_file(&image[..n], &mut base, &mut log, &mut current, &mut last);
-    let answered = opened.answer;
-    let rule = opened.rule;
-    match answered {
-        Opening::Opened => answer(
+    let mut rule = desk.rule;
+    match open_file(
+        &image[..n],
+        &mut base,
+        &mut log,
+        &mut current,
+        &mut last,
+        &mut rule,
+    ) {
+        Ok(()) => answer(
             rt,
             why,
             save,
@@ -229,7 +232,7 @@ fn serve_image(rt: &HostRuntime, why: bool, save: Option<usize>, from: usize) ->
             &mut last,
             rule,
         ),
-        Opening::Refused(number) => Err(files::tell_refused(rt, from, number)),
+        Err(refusal) => Err(files::tell_refused(rt, from, refusal.number())),
     }
 }
 
