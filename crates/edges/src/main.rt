@@ -37,6 +37,10 @@ fn decimal(word: &[u8]) -> u64 {
     word.iter().fold(0, |n, digit| with_digit(n, *digit))
 }
 
+fn low_word(n: u64) -> u32 {
+    (n % 4_294_967_296) as u32
+}
+
 fn value(digit: u8) -> u8
     ensures { result < 16 }
 {
@@ -69,12 +73,7 @@ fn open_anew(word: &[u8], desk: &mut Desk) {
     let mut numbers = word.splitn(2, |byte| *byte == b'/');
     let last = decimal(numbers.next().unwrap_or_default());
     let rule = numbers.next().map_or(1, decimal);
-    let opened = history::open(low_word(last), low_word(rule));
-    *desk = opened.desk;
-}
-
-fn low_word(n: u64) -> u32 {
-    (n % 4_294_967_296) as u32
+    *desk = history::open(low_word(last), low_word(rule)).desk;
 }
 
 // Runs the batch, and writes what it left.
@@ -118,8 +117,7 @@ fn case<W: Write>(out: &mut W, line: &[u8], desk: &mut Desk) -> io::Result<()> {
 }
 
 fn cases<W: Write>(out: &mut W, input: &[u8]) -> io::Result<()> {
-    let opened = history::open(0, 1);
-    let mut desk = opened.desk;
+    let mut desk = history::open(0, 1).desk;
     for line in input.split(|byte| *byte == b'\n') {
         case(out, line, &mut desk)?;
     }
