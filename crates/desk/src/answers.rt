@@ -10,7 +10,7 @@ ghost use Rattle.desk.specs.Steps.{so_far, one_of, Made};
 
 use crate::lines::line;
 use history::Answer;
-use judge::Ruling;
+use judge::Grant;
 use kept::Log;
 use reasons::Reason;
 use records::{Cells, Rule};
@@ -39,11 +39,11 @@ fn so_far(ordinal: u64, used: usize, text: usize, onward: bool) -> Progress
 fn body_length(kind: u8) -> usize
     ensures { (result ≡ body_length kind) × (result < 2 ^ 32) }
 {
-    request::body_length(kind as u32) as usize
+    request::body_length(u32::from(kind)) as usize
 }
 
 // The reason that is printed for a request, by its ruling: asked for before the request is made, and not at all where none is printed.
-fn reason_of(why: bool, log: &Log, last: u32, ruling: Ruling) -> Reason
+fn reason_of(why: bool, log: &Log, last: u32, ruling: Result<Grant, Reason>) -> Reason
     ensures { result ≡ cond why (reason_after ruling last (length (past log.now))) zeros }
 {
     if !why {

@@ -37,6 +37,10 @@ fn decimal(word: &[u8]) -> u64 {
     word.iter().fold(0, |n, digit| with_digit(n, *digit))
 }
 
+fn low_word(n: u64) -> u32 {
+    (n % 4_294_967_296) as u32
+}
+
 fn value(digit: u8) -> u8
     ensures { result < 16 }
 {
@@ -75,10 +79,6 @@ fn open_anew(word: &[u8], desk: &mut LentDesk) {
     *desk.current = anew.current;
     *desk.last = anew.last;
     desk.rule = anew.rule;
-}
-
-fn low_word(n: u64) -> u32 {
-    (n % 4_294_967_296) as u32
 }
 
 // Runs the batch, and writes what it left.

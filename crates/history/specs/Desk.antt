@@ -1,5 +1,5 @@
 -- This desk as the machine: its rules, and what its parts show. Also the bytes of an answer.
-use Rattle.std.specs.Prelude.{ℕ, ◌+◌, ◌%◌, cond, eqb, ltb, length, take}
+use Rattle.std.specs.Prelude.{ℕ, ◌+◌, ◌%◌, cond, eqb, ltb, length, take, Result, Ok, Err}
 use mathlib.Core.List.{List, [], ◌∷◌, foldl}
 use Rattle.request.specs.Bytes.{quad_bytes}
 use Rattle.request.specs.declared.Request.{Request}
@@ -9,17 +9,18 @@ use Rattle.effects.specs.Effects.{change_of, applied}
 use Rattle.effects.specs.declared.Change.{Change}
 use Rattle.kept.specs.Log.{past}
 use Rattle.judge.specs.Kinds.{ruling_of}
-use Rattle.judge.specs.declared.Ruling.{Ruling}
-use Rattle.judge.specs.declared.Ruling.TheVariants.{Refused, Pass, Keep, KeepNumbered, TakeBack}
+use Rattle.judge.specs.declared.Grant.{Grant}
+use Rattle.judge.specs.declared.Grant.TheVariants.{Pass, Keep, KeepNumbered, TakeBack}
+use Rattle.reasons.specs.declared.Reason.{Reason}
 use Rattle.history.specs.Machine.{Verdict, refuse, pass, make, issue, undo, Rulebook, Desk, opened}
 use Rattle.history.specs.declared.Answer.{Answer}
 
-abbrev pub verdict_of : Request → Ruling → Verdict Change
-verdict_of q (Refused r) = refuse r.number
-verdict_of q Pass = pass
-verdict_of q Keep = make (change_of q 0)
-verdict_of q KeepNumbered = issue (change_of q)
-verdict_of q TakeBack = undo
+abbrev pub verdict_of : Request → Result Grant Reason → Verdict Change
+verdict_of q (Err r) = refuse r.number
+verdict_of q (Ok Pass) = pass
+verdict_of q (Ok Keep) = make (change_of q 0)
+verdict_of q (Ok KeepNumbered) = issue (change_of q)
+verdict_of q (Ok TakeBack) = undo
 
 -- 02, L3: "A desk is opened under rule 1 or rule 2 for its whole life."
 abbrev pub desk_rules : Rule → Rulebook House Change Request

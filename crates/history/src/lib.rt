@@ -11,8 +11,9 @@ ghost use Rattle.history.specs.Desk.{shown, desk_rules, opens, opened_under, ver
 ghost use Rattle.counter.specs.Numbers.{next_after};
 
 use effects::Change;
-use judge::Ruling;
+use judge::Grant;
 use kept::Log;
+use reasons::Reason;
 use records::{Cells, Rule};
 use request::Request;
 
@@ -133,19 +134,19 @@ impl<'a> LentDesk<'a> {
     }
 
     // A request that is judged already: refused, passed, made and kept, or taken back, which is the same by either rule. Only a take-back copies records.
-    pub fn act(&mut self, request: Request, ruling: Ruling) -> Answer
+    pub fn act(&mut self, request: Request, ruling: Result<Grant, Reason>) -> Answer
         ensures parts { SameParts self.old self.new }
         ensures done { (rule : Rule) → outcome (lent self.new) result ≡ ruled (desk_rules rule) (lent self.old) (verdict_of request ruling) }
     {
         match ruling {
-            Ruling::Refused(reason) => Answer::Refused(reason.number),
-            Ruling::Pass => Answer::Granted,
-            Ruling::Keep => {
+            Err(reason) => Answer::Refused(reason.number),
+            Ok(Grant::Pass) => Answer::Granted,
+            Ok(Grant::Keep) => {
                 self.make(request, 0);
                 Answer::Granted
             }
-            Ruling::KeepNumbered => self.make_numbered(request),
-            Ruling::TakeBack => self.take_back(),
+            Ok(Grant::KeepNumbered) => self.make_numbered(request),
+            Ok(Grant::TakeBack) => self.take_back(),
         }
     }
 

@@ -5,7 +5,8 @@
 
 ghost use Rattle.std.specs.Prelude.{◌<◌};
 
-use judge::Ruling;
+use judge::Grant;
+use reasons::Reason;
 use records::{Cells, Draft, Rule, Script, Session, User};
 use std::io;
 use std::io::{Read, Write};
@@ -163,16 +164,16 @@ fn house(letter: u8) -> Cells {
 }
 
 // ---- a case
-fn answer(ruling: Ruling) -> u8 {
+fn answer(ruling: Result<Grant, Reason>) -> u8 {
     match ruling {
-        Ruling::Refused(reason) => {
+        Err(reason) => {
             let n = reason.number;
             if n < 63 { 192 + n } else { 255 }
         }
-        Ruling::Pass => 0x80,
-        Ruling::Keep => 0x80,
-        Ruling::KeepNumbered => 0x81,
-        Ruling::TakeBack => 0x20,
+        Ok(Grant::Pass) => 0x80,
+        Ok(Grant::Keep) => 0x80,
+        Ok(Grant::KeepNumbered) => 0x81,
+        Ok(Grant::TakeBack) => 0x20,
     }
 }
 
@@ -226,8 +227,8 @@ fn hex(word: &[u8], room: &mut [u8]) -> usize {
 
 // A line that the end of the input cuts short has no ruling.
 fn case<W: Write>(out: &mut W, line: &[u8]) -> io::Result<()> {
-    let whole = line.strip_suffix(b"\n");
-    let mut fields = whole.unwrap_or(line).split(|byte| *byte == b' ');
+    let ended = line.strip_suffix(b"\n");
+    let mut fields = ended.unwrap_or(line).split(|byte| *byte == b' ');
     let house = fields.next().unwrap_or_default();
     let mut frame = [0u8; 16];
     let n = hex(fields.next().unwrap_or_default(), &mut frame);
@@ -235,7 +236,7 @@ fn case<W: Write>(out: &mut W, line: &[u8]) -> io::Result<()> {
         write!(out, "{:02X} ", frame[0])?;
         out.write_all(word)?;
     }
-    if whole.is_none() {
+    if ended.is_none() {
         return Ok(());
     }
     let letter = house.last().copied().unwrap_or_default();

@@ -9,8 +9,7 @@ pub loop-used-preserved : goal.loop-used-preserved
 loop-used-preserved c =
     let h = c.loop-used.invariant in
     let took = c.take-answer.ensures in
-    let put = c.put_answer-at-in-Whole in
-    (
+    let put = c.put_answer-at-in-Whole in (
       same_on h.0 took.parts,
       next h.1 c.if-requests-used.false c.room_left.result c.room_left.ensures c.if-room_left-lt5.false
           c.start_of-start.result c.start_of-start.ensures _ c.in-Whole.is c.first-request.result c.first-request.ensures
