@@ -14,4 +14,4 @@ pub returns : goal.returns
 returns c =
     let n = c.draft_count-n in
     let a = c.args in
-    rw c.write_draft.ensures (view_add a.records.now c.sized.ensures n.result a.draft (draft_again a.draft (omega arith)) n.ensures.0 (omega arith))
+    rw c.write_draft.ensures (view_add a.records.now (omega arith) n.result a.draft (draft_again a.draft (omega arith)) n.ensures.0 (omega arith))

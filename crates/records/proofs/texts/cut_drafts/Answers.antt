@@ -6,4 +6,4 @@ use Rattle.records.proofs.texts.cut_drafts.Goals as goal
 pub returns : goal.returns
 returns c =
     let a = c.args in
-    view_cut a.records.now c.sized.ensures a.n (omega arith)
+    view_cut a.records.now (omega arith) a.n (omega arith)

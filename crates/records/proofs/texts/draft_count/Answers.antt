@@ -6,11 +6,9 @@ use Rattle.records.proofs.texts.draft_count.Goals as goal
 pub returns-then-n-lt256 : goal.returns-then-n-lt256
 returns-then-n-lt256 c =
     let z = count_drafts c.args.records.now in
-    let w = c.wide-n.ensures in
     (omega arith, omega arith)
 
 pub returns-else-n-lt256 : goal.returns-else-n-lt256
 returns-else-n-lt256 c =
     let z = count_drafts c.args.records.now in
-    let w = c.wide-n.ensures in
     (omega arith, omega arith)
