@@ -19,7 +19,7 @@ use Rattle.request.proofs.Framing.{whole_is, series_empty, series_unknown, serie
 use Rattle.records.specs.House.{House}
 use Rattle.records.specs.declared.Rule.{Rule}
 use Rattle.effects.specs.declared.Change.{Change}
-use Rattle.judge.specs.declared.Ruling.{Ruling}
+use Rattle.judge.specs.declared.Grant.{Grant}
 use Rattle.judge.specs.Kinds.{ruling_of}
 use Rattle.history.specs.Machine.{Desk, Outcome, outcome, ruled, step, run}
 use Rattle.history.specs.Desk.{verdict_of, desk_rules}
@@ -52,12 +52,12 @@ behind_twice u v s t x =
 
 -- ---- one request, as its frame tells
 module _ (rule : Rule) (why ended : Bool) (d : Desk House Change) (k : ℕ) (R O : List ℕ) (at text : ℕ) (O' : List ℕ) where
-  pub made_whole : (q : Request) (x : Ruling) (a : Answer) (w : Reason) (d' : Desk House Change) (n : ℕ) → Ok q ≡ frame_of R → x ≡ ruling_of rule d.current q
+  pub made_whole : (q : Request) (x : Result Grant Reason) (a : Answer) (w : Reason) (d' : Desk House Change) (n : ℕ) → Ok q ≡ frame_of R → x ≡ ruling_of rule d.current q
       → outcome d' a ≡ ruled (desk_rules rule) d (verdict_of q x) → w ≡ cond why (reason_after x d.last (length d.log)) zeros → n ≡ body_length (R # 0)
       → Put O at (line_of why k (R # 0) a w) text O' → Made (one_of rule why ended d k R) O at d' (so_far (k + 1) (n + 1) text true) O'
   unfolding step
   made_whole q x a w d' n f j acted after is-n put =
-      let o : outcome d' a ≡ step (desk_rules rule) d q = acted ∙ ap (λ (z : Ruling). ruled (desk_rules rule) d (verdict_of q z)) j in
+      let o : outcome d' a ≡ step (desk_rules rule) d q = acted ∙ ap (λ (z : Result Grant Reason). ruled (desk_rules rule) d (verdict_of q z)) j in
       let is-w : w ≡ cond why (reason_for rule d q) zeros = after ∙ ap (λ (z : Reason). cond why z zeros) (from_ruling d.last (length d.log) rule d.current q j) in
       rw (sym f)
       (record {

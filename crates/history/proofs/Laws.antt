@@ -1,5 +1,5 @@
 -- What the functions' proofs cite: the oldest change, the number that was issued, a request that is judged, a change that is kept.
-use Rattle.std.specs.Prelude.{Some, None}
+use Rattle.std.specs.Prelude.{Some, None, Result}
 use mathlib.Core.Path.{◌≡◌, refl, ap, ◌∙◌}
 use mathlib.Core.Bool.{Bool, true, false, cond}
 use mathlib.Core.List.{List, [], ◌∷◌, ◌++◌, foldl}
@@ -16,7 +16,8 @@ use Rattle.effects.specs.declared.Change.{Change}
 use Rattle.kept.specs.Log.{pushed}
 use Rattle.counter.specs.Numbers.{top, next_after, last_after}
 use Rattle.judge.specs.Kinds.{ruling_of}
-use Rattle.judge.specs.declared.Ruling.{Ruling}
+use Rattle.judge.specs.declared.Grant.{Grant}
+use Rattle.reasons.specs.declared.Reason.{Reason}
 use Rattle.history.specs.Machine.{Desk, Outcome, keep_change, ruled, step}
 use Rattle.history.specs.Desk.{desk_rules, verdict_of, settled}
 
@@ -32,10 +33,10 @@ number_is_last last n e = by_top (eqb last top) e
     by_top false e = cc
 
 -- a request that is judged, and then acted on by that ruling
-pub taken_is : (rule : Rule) (d : Desk House Change) (q : Request) {o : Outcome House Change} {r : Ruling} → o ≡ ruled (desk_rules rule) d (verdict_of q r)
+pub taken_is : (rule : Rule) (d : Desk House Change) (q : Request) {o : Outcome House Change} {r : Result Grant Reason} → o ≡ ruled (desk_rules rule) d (verdict_of q r)
     → r ≡ ruling_of rule d.current q → o ≡ step (desk_rules rule) d q
 unfolding step
-taken_is rule d q p e = p ∙ ap (λ (x : Ruling). ruled (desk_rules rule) d (verdict_of q x)) e
+taken_is rule d q p e = p ∙ ap (λ (x : Result Grant Reason). ruled (desk_rules rule) d (verdict_of q x)) e
 
 -- the parts after a change that is kept, put together
 module _ (rule : Rule) (b b' : House) (l l' : List Change) (h h' : House) (c : Change) (n m : ℕ) where

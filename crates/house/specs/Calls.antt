@@ -1,14 +1,15 @@
 -- What a call from C answers and leaves: the work is other crates', and their answers are handed to C as numbers.
-use Rattle.std.specs.Prelude.{ℕ, ◌≡◌, cond, List, [], ◌∷◌, eqb}
+use Rattle.std.specs.Prelude.{ℕ, ◌≡◌, cond, List, [], ◌∷◌, eqb, Result, Ok, Err}
 use Rattle.records.specs.declared.Rule.{Rule}
 use Rattle.reasons.specs.declared.Reason.{Reason}
-use Rattle.history.specs.Desk.{Opens}
-use Rattle.image.specs.declared.Written.{Written}
+use Rattle.history.specs.Desk.{no_rule_number, Opens}
+use Rattle.history.specs.declared.NoRule.{NoRule}
+use Rattle.image.specs.Saving.{too_small_number}
+use Rattle.image.specs.declared.TooSmall.{TooSmall}
 use Rattle.opening.specs.Desks.{OpensDesk}
-use Rattle.opening.specs.declared.Opening.{Opening}
+use Rattle.opening.specs.Opening.{Opening, error_number}
 use Rattle.batch.specs.Batch.{State, stop_number, returned, Batched}
 use Rattle.batch.specs.declared.Stop.{Stop}
-use Rattle.why.specs.Explained.{refusal_of}
 
 -- the rule that a desk_t holds as a number: 2 is rule 2, and every other number, as of a zeroed desk_t, is rule 1
 abbrev pub held_rule : ℕ → Rule
@@ -28,13 +29,17 @@ abbrev pub left : ℕ → State → ℕ → Left
 left answer d rule = record { answer = answer; desk = d; rule = rule }
 
 -- "0, or 3"
+abbrev pub open_number : Result (Unit {0}) NoRule → ℕ
+open_number (Ok _) = 0
+open_number (Err e) = no_rule_number
+
 abbrev pub as_opened : Opens → Left
-as_opened o = left (refusal_of o.answer) o.desk (rule_number o.rule)
+as_opened o = left (open_number o.answer) o.desk (rule_number o.rule)
 
 -- "0, 14 or 15"
 abbrev pub load_number : Opening → ℕ
-load_number Opening.Opened = 0
-load_number (Opening.Refused n) = n
+load_number (Ok _) = 0
+load_number (Err e) = error_number e
 
 abbrev pub as_loaded : OpensDesk → Left
 as_loaded o = left (load_number o.answer) o.desk (rule_number o.rule)
@@ -50,10 +55,10 @@ abbrev pub words : Reason → List ℕ
 words r = r.number ∷ r.kind ∷ r.id ∷ r.held ∷ r.wanted ∷ []
 
 -- ---- an image is saved: "0, or 14", and how many bytes were written, none where it is refused
-abbrev pub save_number : Written → ℕ
-save_number (Written.Bytes n) = 0
-save_number (Written.Refused n) = n
+abbrev pub save_number : Result ℕ TooSmall → ℕ
+save_number (Ok n) = 0
+save_number (Err e) = too_small_number
 
-abbrev pub save_length : Written → ℕ
-save_length (Written.Bytes n) = n
-save_length (Written.Refused n) = 0
+abbrev pub save_length : Result ℕ TooSmall → ℕ
+save_length (Ok n) = n
+save_length (Err e) = 0

@@ -9,14 +9,11 @@ ghost use Rattle.editor.specs.Answers.{dominance_answer, join_answer, body_lengt
 ghost use Rattle.image.specs.Image.{image_of};
 ghost use Rattle.image.specs.Saving.{saved_answer, saved_buffer};
 ghost use Rattle.opening.specs.Desks.{desk_by};
-ghost use Rattle.why.specs.Explained.{refusal_of};
 ghost use Rattle.why.specs.Why.{reason_of_bytes};
-ghost use Rattle.house.specs.Calls.{held_rule, rule_number, left, as_opened, as_loaded, load_number, BatchCall, words, save_number, save_length};
+ghost use Rattle.house.specs.Calls.{held_rule, rule_number, left, as_opened, as_loaded, BatchCall, words, save_number, save_length};
 
-use history::{Answer, LentDesk};
-use image::Written;
+use history::LentDesk;
 use kept::Log;
-use opening::Opening;
 use records::{Cells, Rule};
 
 // The five words of a desk_reason: its number, the record's kind and id, what it holds and what was wanted.
@@ -38,43 +35,6 @@ fn rule_number(rule: Rule) -> u32
     }
 }
 
-fn refusal_of(answer: Answer) -> u32
-    ensures { result ≡ refusal_of answer }
-{
-    match answer {
-        Answer::Granted => 0,
-        Answer::Numbered(_) => 0,
-        Answer::Refused(n) => n as u32,
-    }
-}
-
-fn load_number(answer: Opening) -> u32
-    ensures { result ≡ load_number answer }
-{
-    match answer {
-        Opening::Opened => 0,
-        Opening::Refused(n) => n as u32,
-    }
-}
-
-fn save_number(saved: Written) -> u32
-    ensures { result ≡ save_number saved }
-{
-    match saved {
-        Written::Bytes(_) => 0,
-        Written::Refused(n) => n as u32,
-    }
-}
-
-fn save_length(saved: Written) -> usize
-    ensures { result ≡ save_length saved }
-{
-    match saved {
-        Written::Bytes(n) => n,
-        Written::Refused(_) => 0,
-    }
-}
-
 // Without records and kept changes.
 pub fn desk_open_parts(
     base: &mut Cells,
@@ -87,19 +47,19 @@ pub fn desk_open_parts(
 ) -> u32
     ensures { left result (shown base.new log.new current.new last.new) rule.new ≡ as_opened (opened_under start under) }
 {
-    let opened = history::open(start, under);
-    let desk = opened.desk;
-    let before = desk.base;
-    let changes = desk.log;
-    let records = desk.current;
-    *base = before;
-    *log = changes;
-    *current = records;
-    *last = desk.last;
-    let held = desk.rule;
-    *rule = rule_number(held);
-    let answer = opened.answer;
-    refusal_of(answer)
+    let mut desk = LentDesk {
+        base,
+        log,
+        current,
+        last,
+        rule: Rule::One,
+    };
+    let answer = desk.open(start, under);
+    *rule = rule_number(desk.rule);
+    match answer {
+        Ok(()) => 0,
+        Err(refusal) => u32::from(refusal.number()),
+    }
 }
 
 pub fn desk_batch_parts(
@@ -126,8 +86,7 @@ pub fn desk_batch_parts(
     let ran = batch::run(&mut desk, requests, answers, place);
     *used = ran.used;
     *written = ran.written;
-    let stop = ran.stop;
-    batch::stop_number(stop) as u32
+    u32::from(batch::stop_number(ran.stop))
 }
 
 pub fn desk_why_parts(
@@ -157,10 +116,16 @@ pub fn desk_save_parts(
 ) -> u32
     ensures { (result ≡ save_number (saved_answer (image_of (view current.now) last (held_rule rule)) buffer.old)) × (written.new ≡ save_length (saved_answer (image_of (view current.now) last (held_rule rule)) buffer.old)) × (buffer.new ≡ saved_buffer (image_of (view current.now) last (held_rule rule)) buffer.old) }
 {
-    let held = rule_of(rule);
-    let saved = image::save(current, last, held, buffer);
-    *written = save_length(saved);
-    save_number(saved)
+    match image::save(current, last, rule_of(rule), buffer) {
+        Ok(n) => {
+            *written = n;
+            0
+        }
+        Err(refusal) => {
+            *written = 0;
+            u32::from(refusal.number())
+        }
+    }
 }
 
 pub fn desk_load_parts(
@@ -173,11 +138,19 @@ pub fn desk_load_parts(
 ) -> u32
     ensures { left result (shown base.new log.new current.new last.new) rule.new ≡ as_loaded (desk_by image.now) }
 {
-    let opened = opening::open_desk(image, base, log, current, last);
-    let under = opened.rule;
-    *rule = rule_number(under);
-    let answer = opened.answer;
-    load_number(answer)
+    let mut desk = LentDesk {
+        base,
+        log,
+        current,
+        last,
+        rule: Rule::One,
+    };
+    let answer = opening::open_desk(image, &mut desk);
+    *rule = rule_number(desk.rule);
+    match answer {
+        Ok(()) => 0,
+        Err(refusal) => u32::from(refusal.number()),
+    }
 }
 
 pub fn desk_kept_parts(log: &Log) -> u32

@@ -1,5 +1,6 @@
 -- Every reason explains the answer of the desk, in every state; and of bytes it is the request's that they begin with.
-use Rattle.std.specs.Prelude.{Ok, Err}
+use Rattle.std.specs.Prelude.{Result, Ok, Err}
+use Rattle.std.specs.Result.{result_and}
 use Prim.Native.Nat.{ℕ}
 use mathlib.Core.Path.{◌≡◌, refl, sym, ap, ◌∙◌}
 use mathlib.Core.Bool.{Bool, true, false}
@@ -18,18 +19,15 @@ use Rattle.records.specs.declared.Rule.{Rule}
 use Rattle.effects.specs.declared.Change.{Change}
 use Rattle.counter.specs.Numbers.{top, next_after}
 use Rattle.reasons.specs.Reasons.{bare}
-use Rattle.reasons.specs.Asking.{Line, ◌unless◌, ◌because◌, asked, both, told, FirstFailing, here, later, numbers}
+use Rattle.reasons.specs.Asking.{Line, ◌unless◌, ◌because◌, asked, told, FirstFailing, here, later, numbers}
 use Rattle.reasons.specs.Order.{rank, ascend_from}
 use Rattle.reasons.specs.declared.Reason.{Reason}
-use Rattle.reasons.specs.declared.Asked.{Asked}
-use Rattle.reasons.specs.declared.Asked.TheVariants.{Holds, Fails}
 use Rattle.reasons.proofs.Asking.{more}
 use Rattle.reasons.proofs.Order.{first_fails, Verdict, grant, refusal, verdict, ascends, ascend_behind, numbers_more, lowest, zeros_if_all, all_if_zero}
-use Rattle.judge.specs.declared.Ruling.{Ruling}
-use Rattle.judge.specs.declared.Ruling.TheVariants.{Refused, Pass, Keep, KeepNumbered}
+use Rattle.judge.specs.declared.Grant.{Grant}
+use Rattle.judge.specs.declared.Grant.TheVariants.{Pass, Keep, KeepNumbered}
 use Rattle.judge.specs.Kinds.{lines_of, grant_of, grant_if, ruling_of}
 use Rattle.judge.proofs.Rows.{fine}
-use Rattle.judge.proofs.Order.{grant_is_none}
 use Rattle.judge.proofs.Sound.{first_told}
 use Rattle.history.specs.Machine as machine
 use Rattle.history.specs.Machine.{Desk, step, take_back, issued}
@@ -49,41 +47,39 @@ lines_ascend rule h last kept q = rw (numbers_more (lines_of rule h q) (after_li
     with_end : (ks : List ℕ) → ((j : ℕ) → ascend_from j (11 ∷ 12 ∷ []) ≡ true → ascend_from j ks ≡ true) → ascend_from 0 (numbers ls ++ ks) ≡ true
     with_end ks f = ascend_behind (11 ∷ 12 ∷ []) ks f 0 (numbers ls) (fine q rule h).0
 
-    go : (g : Ruling) → ascend_from 0 (numbers ls ++ numbers (after_lines g last kept)) ≡ true
-    go (Refused r) = with_end [] (λ j a. refl)
+    go : (g : Grant) → ascend_from 0 (numbers ls ++ numbers (after_lines g last kept)) ≡ true
     go Pass = with_end [] (λ j a. refl)
     go Keep = with_end [] (λ j a. refl)
     go KeepNumbered = with_end (11 ∷ []) (λ j a. rw (ascends j 11 (12 ∷ []) a).1)
-    go Ruling.TakeBack = with_end (12 ∷ []) (λ j a. rw (le-leb j (rank 12) (omega (arith, leb-true j (rank 11) (ascends j 11 (12 ∷ []) a).1))))
+    go Grant.TakeBack = with_end (12 ∷ []) (λ j a. rw (le-leb j (rank 12) (omega (arith, leb-true j (rank 11) (ascends j 11 (12 ∷ []) a).1))))
 
 -- ---- the number is the one that the desk answers with
 module _ (rule : Rule) (d : Desk House Change) (q : Request) where
-  abbrev after : Ruling → Asked
+  abbrev after : Grant → Result (Unit {0}) Reason
   after g = asked (after_lines g d.last (length d.log))
 
-  by_grant : (g : Ruling) (a : Asked) → ((r : Reason) → g ≡ Refused r → ⊥)
-      → (told (both a (after g))).number ≡ refusal_of (machine.ruled (desk_rules rule) d (verdict_of q (grant_if g a))).answer
+  by_grant : (g : Grant) (a : Result (Unit {0}) Reason)
+      → (told (result_and a (after g))).number ≡ refusal_of (machine.ruled (desk_rules rule) d (verdict_of q (grant_if g a))).answer
   unfolding asked take_back
-  by_grant g (Fails x) is-grant = refl
-  by_grant (Refused r) Holds is-grant = absurd (is-grant r refl)
-  by_grant Pass Holds is-grant = refl
-  by_grant Keep Holds is-grant = refl
-  by_grant KeepNumbered Holds is-grant = go (eqb d.last top) refl
+  by_grant g (Err r) = refl
+  by_grant Pass (Ok x) = refl
+  by_grant Keep (Ok x) = refl
+  by_grant KeepNumbered (Ok x) = go (eqb d.last top) refl
     where
       go : (t : Bool) → eqb d.last top ≡ t → (told (after KeepNumbered)).number ≡ refusal_of (issued (desk_rules rule) d (change_of q) (next_after d.last)).answer
       go true e = rw e
       go false e = rw e
-  by_grant Ruling.TakeBack Holds is-grant = go (eqb (length d.log) 0) refl
+  by_grant Grant.TakeBack (Ok x) = go (eqb (length d.log) 0) refl
     where
-      go : (t : Bool) → eqb (length d.log) 0 ≡ t → (told (after Ruling.TakeBack)).number ≡ refusal_of (take_back (desk_rules rule) d).answer
+      go : (t : Bool) → eqb (length d.log) 0 ≡ t → (told (after Grant.TakeBack)).number ≡ refusal_of (take_back (desk_rules rule) d).answer
       go true e = rw e
       go false e = rw e
 
   answered : (reason_of rule d.current d.last (length d.log) q).number ≡ refusal_of (step (desk_rules rule) d q).answer
   unfolding reason_of step ruling_of
   answered =
-      ap (λ (a : Asked). (told a).number) (more (lines_of rule d.current q) (after_lines (grant_of q) d.last (length d.log)))
-      ∙ by_grant (grant_of q) (asked (lines_of rule d.current q)) (grant_is_none q)
+      ap (λ (a : Result (Unit {0}) Reason). (told a).number) (more (lines_of rule d.current q) (after_lines (grant_of q) d.last (length d.log)))
+      ∙ by_grant (grant_of q) (asked (lines_of rule d.current q))
 
   -- ---- what is named is true of the desk
   -- the first that fails of two lists is of the one or of the other
@@ -92,14 +88,13 @@ module _ (rule : Rule) (d : Desk House Change) (q : Request) where
   split (n unless b because e ∷ xs) ys f g (here p w) = f (here p w)
   split (n unless b because e ∷ xs) ys f g (later p x) = split xs ys (λ y. f (later p y)) g x
 
-  after_true : (g : Ruling) {r : Reason} → FirstFailing r (after_lines g d.last (length d.log)) → TrueOf rule d r
-  after_true (Refused _) f = elim f [ ]
+  after_true : (g : Grant) {r : Reason} → FirstFailing r (after_lines g d.last (length d.log)) → TrueOf rule d r
   after_true Pass f = elim f [ ]
   after_true Keep f = elim f [ ]
   after_true KeepNumbered (here p w) = rw w (no_number (eqb-true d.last top (not-false (eqb d.last top) p)))
   after_true KeepNumbered (later _ f) = elim f [ ]
-  after_true Ruling.TakeBack (here p w) = rw w (no_change (eqb-true (length d.log) 0 (not-false (eqb (length d.log) 0) p)))
-  after_true Ruling.TakeBack (later _ f) = elim f [ ]
+  after_true Grant.TakeBack (here p w) = rw w (no_change (eqb-true (length d.log) 0 (not-false (eqb (length d.log) 0) p)))
+  after_true Grant.TakeBack (later _ f) = elim f [ ]
 
   named_true : {r : Reason} → FirstFailing r (asked_by rule d q) → TrueOf rule d r
   named_true {r} f = split (lines_of rule d.current q) (after_lines (grant_of q) d.last (length d.log)) (λ x. of_records (first_told rule d.current q r x)) (after_true (grant_of q)) f

@@ -5,21 +5,22 @@ ghost use Rattle.std.specs.Prelude.{◌≡◌};
 ghost use Rattle.records.specs.House.{view};
 ghost use Rattle.why.specs.Why.{reason_after, reason_of, reason_of_bytes};
 
-use judge::Ruling;
-use reasons::{Asked, Reason};
+use judge::Grant;
+use reasons::Reason;
 use records::{Cells, Rule};
 use request::{FrameError, Request};
 
 // Of a ruling: a refusal has its reason; where the judge grants, what is asked after it is left. Last is the last number issued, kept how many changes are kept.
-pub fn of_ruling(ruling: Ruling, last: u32, kept: u32) -> Reason
+#[tactic(auto, unfolding(reasons::specs::Asking::asked))]
+pub fn of_ruling(ruling: Result<Grant, Reason>, last: u32, kept: u32) -> Reason
     ensures { result ≡ reason_after ruling last kept }
 {
     match ruling {
-        Ruling::Refused(reason) => reason,
-        Ruling::Pass => reasons::bare(0),
-        Ruling::Keep => reasons::bare(0),
-        Ruling::KeepNumbered => Asked::Holds.number_left(last).reason(),
-        Ruling::TakeBack => Asked::Holds.change_left(kept).reason(),
+        Err(reason) => reason,
+        Ok(Grant::Pass) => reasons::bare(0),
+        Ok(Grant::Keep) => reasons::bare(0),
+        Ok(Grant::KeepNumbered) => reasons::told(reasons::number_left(last)),
+        Ok(Grant::TakeBack) => reasons::told(reasons::change_left(kept)),
     }
 }
 
