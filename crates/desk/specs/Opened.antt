@@ -1,5 +1,5 @@
 -- The desks that the program opens: without records, with "the last number already used N" and under rule 1 or 2, or from an image that is accepted.
-use Rattle.std.specs.Prelude.{ℕ, ◌≡◌, cond, List, ltb, length, Result, Ok, Err}
+use Rattle.std.specs.Prelude.{ℕ, ◌≡◌, cond, List, ltb, length, Ok, Err}
 use Rattle.records.specs.House.{House}
 use Rattle.records.specs.declared.Rule.{Rule}
 use Rattle.effects.specs.declared.Change.{Change}

@@ -1,5 +1,6 @@
 -- What is promised holds of every desk that bytes reach, from any records and last number that meet the record rules: over any calls of the batch, and over
 -- any input of the program.
+use Rattle.std.specs.Prelude.{Ok, Err}
 use Prim.Native.Nat.{ℕ, ◌≤◌}
 use mathlib.Core.Path.{◌≡◌, refl, sym, ap, ◌∙◌, subst}
 use mathlib.Core.Bool.{Bool, true, false, ◌&&◌}
@@ -21,9 +22,8 @@ use Rattle.batch.proofs.Served.{desk_runs}
 use Rattle.rules.specs.Rules.{rules}
 use Rattle.rules.proofs.Empty.{empty_meets}
 use Rattle.reader.specs.Reading.{Saved}
-use Rattle.opening.specs.Opening.{keeps, opened_by}
+use Rattle.opening.specs.Opening.{Opening, keeps, opened_by}
 use Rattle.opening.specs.Desks.{desk_by}
-use Rattle.opening.specs.declared.Opening.{Opening}
 use Rattle.opening.proofs.Theorems.{fine}
 use Rattle.promises.specs.Fits.{fits}
 use Rattle.promises.specs.Calls.{Call, Calls, none, then, room_of, taken_in, Promised}
@@ -99,8 +99,8 @@ input_from_empty rule last l = of_input rule empty_house last (empty_meets last 
 
 -- ---- from any image, under its rule: what opens meets the rules, and a refused image opens the empty desk with last number 0
 opened_meets : (b : List ℕ) (a : Opening) → (opened_by b).answer ≡ a → keeps (opened_by b).now ≡ true
-opened_meets b Opening.Opened e = ((fine b).0 e).0
-opened_meets b (Opening.Refused n) e = subst (λ (s : Saved). keeps s ≡ true) (sym ((fine b).1 n e)) (empty_meets 0 (omega arith))
+opened_meets b (Ok _) e = ((fine b).0 e).0
+opened_meets b (Err n) e = subst (λ (s : Saved). keeps s ≡ true) (sym ((fine b).1 n e)) (empty_meets 0 (omega arith))
 
 pub from_image : (b : List ℕ) {cs : List Call} {d : State} → Calls (desk_by b).rule (desk_by b).desk cs d
     → Promised (desk_by b).rule (opened_by b).now.house (opened_by b).now.last (taken_in (desk_by b).rule (desk_by b).desk cs) d

@@ -9,11 +9,9 @@ use Rattle.request.specs.declared.Request.{Request}
 use Rattle.records.specs.House.{House, view, empty_house}
 use Rattle.records.specs.declared.Rule.{Rule}
 use Rattle.effects.specs.declared.Change.{Change}
-use Rattle.reader.specs.Reading.{Saved, blank, Taken, stopped, walked}
-use Rattle.reader.specs.declared.Walk.{Walk}
-use Rattle.opening.specs.Opening.{Opens, opens, opened_by}
+use Rattle.reader.specs.Reading.{Saved, blank, Walk, Taken, stopped, walked}
+use Rattle.opening.specs.Opening.{Opening, Opens, opens, opened_by}
 use Rattle.opening.specs.Desks.{OpensDesk, opens_desk, desk_by}
-use Rattle.opening.specs.declared.Opening.{Opening}
 use Rattle.counter.specs.Numbers.{next_after, last_after}
 use Rattle.counter.specs.declared.Counter.{Counter}
 use Rattle.kept.specs.Log.{past}
