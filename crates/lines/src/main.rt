@@ -5,7 +5,8 @@
 
 ghost use Rattle.std.specs.Prelude.{◌<◌};
 
-use judge::Ruling;
+use judge::Grant;
+use reasons::Reason;
 use records::{Cells, Draft, Rule, Script, Session, User};
 use std::io;
 use std::io::{Read, Write};
@@ -163,16 +164,16 @@ fn house(letter: u8) -> Cells {
 }
 
 // ---- a case
-fn answer(ruling: Ruling) -> u8 {
+fn answer(ruling: Result<Grant, Reason>) -> u8 {
     match ruling {
-        Ruling::Refused(reason) => {
+        Err(reason) => {
             let n = reason.number;
             if n < 63 { 192 + n } else { 255 }
         }
-        Ruling::Pass => 0x80,
-        Ruling::Keep => 0x80,
-        Ruling::KeepNumbered => 0x81,
-        Ruling::TakeBack => 0x20,
+        Ok(Grant::Pass) => 0x80,
+        Ok(Grant::Keep) => 0x80,
+        Ok(Grant::KeepNumbered) => 0x81,
+        Ok(Grant::TakeBack) => 0x20,
     }
 }
 

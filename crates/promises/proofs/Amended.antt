@@ -1,5 +1,5 @@
 -- "Only refusals 9 and 16 at Import are amended": in every state, and over any run.
-use Rattle.std.specs.Prelude.{Option, Some, None}
+use Rattle.std.specs.Prelude.{Option, Some, None, Result, Err}
 use Prim.Native.Nat.{ℕ}
 use mathlib.Core.Path.{◌≡◌, refl, ap, ◌∙◌}
 use mathlib.Core.List.{List, [], ◌∷◌}
@@ -10,8 +10,7 @@ use Rattle.records.specs.declared.Rule.{Rule}
 use Rattle.effects.specs.declared.Change.{Change}
 use Rattle.counter.specs.Numbers.{next_after}
 use Rattle.reasons.specs.declared.Reason.{Reason}
-use Rattle.judge.specs.declared.Ruling.{Ruling}
-use Rattle.judge.specs.declared.Ruling.TheVariants.{Refused}
+use Rattle.judge.specs.declared.Grant.{Grant}
 use Rattle.judge.specs.Kinds.{ruling_of}
 use Rattle.judge.specs.Amended.{IsImport, Amended, alike, refuses_9, refuses_16}
 use Rattle.judge.proofs.Amended.{judged_alike, import_amended}
@@ -37,7 +36,7 @@ module _ (r s : Rule) (d : Desk House Change) where
 
   by_ruling : (q : Request) → ruling_of r d.current q ≡ ruling_of s d.current q → step (desk_rules r) d q ≡ step (desk_rules s) d q
   unfolding step
-  by_ruling q e = done_alike (verdict_of q (ruling_of r d.current q)) ∙ ap (λ (x : Ruling). ruled (desk_rules s) d (verdict_of q x)) e
+  by_ruling q e = done_alike (verdict_of q (ruling_of r d.current q)) ∙ ap (λ (x : Result Grant Reason). ruled (desk_rules s) d (verdict_of q x)) e
 
   -- every request that is no Import
   pub stepped_alike : (q : Request) → (IsImport q → ⊥) → step (desk_rules r) d q ≡ step (desk_rules s) d q
@@ -60,9 +59,9 @@ module _ (d : Desk House Change) (u k₁ v k₂ room : ℕ) where
   abbrev q : Request
   q = Import u k₁ v k₂ room
 
-  refused_with : (r : Reason) (n : ℕ) → ruling_of Rule.One d.current q ≡ Refused r → r.number ≡ n → step (desk_rules Rule.One) d q ≡ outcome d (Answer.Refused n)
+  refused_with : (r : Reason) (n : ℕ) → ruling_of Rule.One d.current q ≡ Err r → r.number ≡ n → step (desk_rules Rule.One) d q ≡ outcome d (Answer.Refused n)
   unfolding step
-  refused_with r n e is = ap (λ (x : Ruling). ruled (desk_rules Rule.One) d (verdict_of q x)) e ∙ ap (λ (k : ℕ). outcome d (Answer.Refused k)) is
+  refused_with r n e is = ap (λ (x : Result Grant Reason). ruled (desk_rules Rule.One) d (verdict_of q x)) e ∙ ap (λ (k : ℕ). outcome d (Answer.Refused k)) is
 
   pub import_stepped : StepAmended d (step (desk_rules Rule.One) d q) (step (desk_rules Rule.Two) d q)
   import_stepped = go (import_amended d.current u k₁ v k₂ room)

@@ -11,8 +11,8 @@ use Rattle.records.specs.declared.Rule.{Rule}
 use Rattle.effects.specs.declared.Change.{Change}
 use Rattle.kept.specs.Log.{pushed, popped}
 use Rattle.judge.specs.Kinds.{grant_of}
-use Rattle.judge.specs.declared.Ruling.{Ruling}
-use Rattle.judge.specs.declared.Ruling.TheVariants.{Pass, Keep, KeepNumbered}
+use Rattle.judge.specs.declared.Grant.{Grant}
+use Rattle.judge.specs.declared.Grant.TheVariants.{Pass, Keep, KeepNumbered}
 use Rattle.history.specs.Machine.{Rulebook, Desk, Outcome, opened, changed, keep_change, step, run, answers}
 use Rattle.effects.specs.Effects.{change_of}
 use Rattle.history.specs.Desk.{desk_rules}
@@ -28,7 +28,7 @@ use Rattle.promises.proofs.Listed.{refusal}
 use Rattle.promises.proofs.Past.{left_so, log_after, Sound, less_newest, keep_back}
 
 -- ---- "Kept changes: every granted request but Read and Take back."
-abbrev Kept : Ruling → Type 0
+abbrev Kept : Grant → Type 0
 Kept g = (g ≡ Keep) ⊎ (g ≡ KeepNumbered)
 
 -- the kinds whose grant is kept are those two out of all
@@ -58,7 +58,7 @@ change_kept (Request.TakeBack u) k = absurd (k.no_take_back (is_take_back u))
 pub read_passes : {q : Request} → IsRead q → grant_of q ≡ Pass
 read_passes (is_read x s v) = refl
 
-back_undoes : {q : Request} → IsTakeBack q → grant_of q ≡ Ruling.TakeBack
+back_undoes : {q : Request} → IsTakeBack q → grant_of q ≡ Grant.TakeBack
 back_undoes (is_take_back u) = refl
 
 pub kept_change : (q : Request) → Kept (grant_of q) → IsChange q
@@ -68,7 +68,7 @@ kept_change q k = record { no_read = λ r. no_pass k (read_passes r); no_take_ba
     no_pass (inl e) p = differ cc
     no_pass (inr e) p = differ cc
 
-    no_undo : Kept (grant_of q) → grant_of q ≡ Ruling.TakeBack → ⊥
+    no_undo : Kept (grant_of q) → grant_of q ≡ Grant.TakeBack → ⊥
     no_undo (inl e) p = differ cc
     no_undo (inr e) p = differ cc
 

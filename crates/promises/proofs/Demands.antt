@@ -1,4 +1,5 @@
 -- Demands 2 and 3 of this desk: at any desk, and over any requests from any records and last number that it opened with.
+use Rattle.std.specs.Prelude.{Result, Ok, Err}
 use mathlib.Core.Path.{◌≡◌, refl, ap, ◌∙◌}
 use mathlib.Core.List.{List, [], foldl}
 use Prim.Native.Nat.{ℕ, ◌+◌}
@@ -13,8 +14,8 @@ use Rattle.effects.specs.declared.Change.{Change}
 use Rattle.reasons.specs.Asking.{AllHold, FirstFailing}
 use Rattle.reasons.specs.declared.Reason.{Reason}
 use Rattle.judge.specs.Kinds.{lines_of, grant_of, ruling_of}
-use Rattle.judge.specs.declared.Ruling.{Ruling}
-use Rattle.judge.specs.declared.Ruling.TheVariants.{Pass, Keep, KeepNumbered}
+use Rattle.judge.specs.declared.Grant.{Grant}
+use Rattle.judge.specs.declared.Grant.TheVariants.{Pass, Keep, KeepNumbered}
 use Rattle.judge.proofs.Order.{granted_exactly, refused_exactly}
 use Rattle.counter.specs.Numbers.{top}
 use Rattle.history.specs.Machine.{pass, make, issue, undo, Desk, outcome, opened, keep_change, ruled, step}
@@ -30,33 +31,33 @@ use Rattle.promises.proofs.Trace.{records_are_shown, none_to_take_back, take_bac
 
 -- ---- Demand 2, at any desk d, so at every desk reached: a request is granted exactly when all conditions of its kind hold in the present records
 module _ (rule : Rule) (d : Desk House Change) (q : Request) where
-  by_ruling : (r : Ruling) → ruling_of rule d.current q ≡ r → step (desk_rules rule) d q ≡ ruled (desk_rules rule) d (verdict_of q r)
+  by_ruling : (r : Result Grant Reason) → ruling_of rule d.current q ≡ r → step (desk_rules rule) d q ≡ ruled (desk_rules rule) d (verdict_of q r)
   unfolding step
-  by_ruling r e = ap (λ (x : Ruling). ruled (desk_rules rule) d (verdict_of q x)) e
+  by_ruling r e = ap (λ (x : Result Grant Reason). ruled (desk_rules rule) d (verdict_of q x)) e
 
-  pub allowed : (r : Ruling) → grant_of q ≡ r → AllHold (lines_of rule d.current q) → ruling_of rule d.current q ≡ r
-  allowed r e all = (granted_exactly rule d.current q).1 all ∙ e
+  pub allowed : (g : Grant) → grant_of q ≡ g → AllHold (lines_of rule d.current q) → ruling_of rule d.current q ≡ Ok g
+  allowed g e all = (granted_exactly rule d.current q).1 all ∙ ap Ok e
 
   -- the first condition that fails refuses with its number, and nothing changes
   pub refused : (r : Reason) → FirstFailing r (lines_of rule d.current q) → step (desk_rules rule) d q ≡ outcome d (Answer.Refused r.number)
-  refused r first = by_ruling (Ruling.Refused r) ((refused_exactly rule d.current q r).1 first)
+  refused r first = by_ruling (Err r) ((refused_exactly rule d.current q r).1 first)
 
   -- all conditions hold, and the kind changes nothing: Read
   pub passed : grant_of q ≡ Pass → AllHold (lines_of rule d.current q) → step (desk_rules rule) d q ≡ outcome d Answer.Granted
-  passed e all = by_ruling Pass (allowed Pass e all)
+  passed e all = by_ruling (Ok Pass) (allowed Pass e all)
 
   -- all conditions hold, and the kind is kept: the records are then those of its effect
   pub made : grant_of q ≡ Keep → AllHold (lines_of rule d.current q) → step (desk_rules rule) d q ≡ outcome (keep_change (desk_rules rule) d (change_of q 0) d.last) Answer.Granted
-  made e all = by_ruling Keep (allowed Keep e all)
+  made e all = by_ruling (Ok Keep) (allowed Keep e all)
 
   -- all conditions hold, and the kind gets a number: it is one more than the last
   pub numbered : grant_of q ≡ KeepNumbered → AllHold (lines_of rule d.current q) → (d.last ≡ top → ⊥)
       → step (desk_rules rule) d q ≡ outcome (keep_change (desk_rules rule) d (change_of q (d.last + 1)) (d.last + 1)) (Answer.Numbered (d.last + 1))
-  numbered e all left = by_ruling KeepNumbered (allowed KeepNumbered e all) ∙ rw (ne_eqb d.last top left)
+  numbered e all left = by_ruling (Ok KeepNumbered) (allowed KeepNumbered e all) ∙ rw (ne_eqb d.last top left)
 
   -- 11: no number is left
   pub spent : grant_of q ≡ KeepNumbered → AllHold (lines_of rule d.current q) → d.last ≡ top → step (desk_rules rule) d q ≡ outcome d (Answer.Refused 11)
-  spent e all none = by_ruling KeepNumbered (allowed KeepNumbered e all) ∙ rw (eq-eqb d.last top none)
+  spent e all none = by_ruling (Ok KeepNumbered) (allowed KeepNumbered e all) ∙ rw (eq-eqb d.last top none)
 
 -- the records after a kept change are its effect on those before it
 pub records_after : (rule : Rule) (d : Desk House Change) (c : Change) (n : ℕ) → (keep_change (desk_rules rule) d c n).current ≡ applied d.current c
@@ -64,33 +65,33 @@ records_after rule d c n = Past.records_after (desk_rules rule) d c n
 
 -- ---- Demand 3, over any requests from any records and last number
 module _ (rule : Rule) (h : House) (q : Request) where
-  shown_pass : (r : Ruling) → ruling_of rule h q ≡ r → verdict_of q r ≡ pass → grant_shows q (grant_of q) ≡ nothing
-  shown_pass (Ruling.Refused r) e w = differ cc
-  shown_pass Pass e w = ap (grant_shows q) (conditions rule h q Pass refl e).given
-  shown_pass Keep e w = differ cc
-  shown_pass KeepNumbered e w = differ cc
-  shown_pass Ruling.TakeBack e w = differ cc
+  shown_pass : (r : Result Grant Reason) → ruling_of rule h q ≡ r → verdict_of q r ≡ pass → grant_shows q (grant_of q) ≡ nothing
+  shown_pass (Err r) e w = differ cc
+  shown_pass (Ok Pass) e w = ap (grant_shows q) (conditions rule h q Pass e).given
+  shown_pass (Ok Keep) e w = differ cc
+  shown_pass (Ok KeepNumbered) e w = differ cc
+  shown_pass (Ok Grant.TakeBack) e w = differ cc
 
-  shown_make : (c : Change) (r : Ruling) → ruling_of rule h q ≡ r → verdict_of q r ≡ make c → grant_shows q (grant_of q) ≡ kept c
-  shown_make c (Ruling.Refused r) e w = differ cc
-  shown_make c Pass e w = differ cc
-  shown_make c Keep e w = let same : change_of q 0 ≡ c = cc in ap (grant_shows q) (conditions rule h q Keep refl e).given ∙ ap kept same
-  shown_make c KeepNumbered e w = differ cc
-  shown_make c Ruling.TakeBack e w = differ cc
+  shown_make : (c : Change) (r : Result Grant Reason) → ruling_of rule h q ≡ r → verdict_of q r ≡ make c → grant_shows q (grant_of q) ≡ kept c
+  shown_make c (Err r) e w = differ cc
+  shown_make c (Ok Pass) e w = differ cc
+  shown_make c (Ok Keep) e w = let same : change_of q 0 ≡ c = cc in ap (grant_shows q) (conditions rule h q Keep e).given ∙ ap kept same
+  shown_make c (Ok KeepNumbered) e w = differ cc
+  shown_make c (Ok Grant.TakeBack) e w = differ cc
 
-  shown_number : (g : ℕ → Change) (n : ℕ) (r : Ruling) → verdict_of q r ≡ issue g → kept (change_of q n) ≡ kept (g n)
-  shown_number g n (Ruling.Refused r) w = differ cc
-  shown_number g n Pass w = differ cc
-  shown_number g n Keep w = differ cc
-  shown_number g n KeepNumbered w = let same : ◌≡◌ {A = ℕ → Change} (change_of q) g = cc in ap (λ (f : ℕ → Change). kept (f n)) same
-  shown_number g n Ruling.TakeBack w = differ cc
+  shown_number : (g : ℕ → Change) (n : ℕ) (r : Result Grant Reason) → verdict_of q r ≡ issue g → kept (change_of q n) ≡ kept (g n)
+  shown_number g n (Err r) w = differ cc
+  shown_number g n (Ok Pass) w = differ cc
+  shown_number g n (Ok Keep) w = differ cc
+  shown_number g n (Ok KeepNumbered) w = let same : ◌≡◌ {A = ℕ → Change} (change_of q) g = cc in ap (λ (f : ℕ → Change). kept (f n)) same
+  shown_number g n (Ok Grant.TakeBack) w = differ cc
 
-  shown_back : (r : Ruling) → ruling_of rule h q ≡ r → verdict_of q r ≡ undo → grant_shows q (grant_of q) ≡ back
-  shown_back (Ruling.Refused r) e w = differ cc
-  shown_back Pass e w = differ cc
-  shown_back Keep e w = differ cc
-  shown_back KeepNumbered e w = differ cc
-  shown_back Ruling.TakeBack e w = ap (grant_shows q) (conditions rule h q Ruling.TakeBack refl e).given
+  shown_back : (r : Result Grant Reason) → ruling_of rule h q ≡ r → verdict_of q r ≡ undo → grant_shows q (grant_of q) ≡ back
+  shown_back (Err r) e w = differ cc
+  shown_back (Ok Pass) e w = differ cc
+  shown_back (Ok Keep) e w = differ cc
+  shown_back (Ok KeepNumbered) e w = differ cc
+  shown_back (Ok Grant.TakeBack) e w = ap (grant_shows q) (conditions rule h q Grant.TakeBack e).given
 
 -- an answer of this desk shows what happened
 pub shows : (rule : Rule) → Shows (desk_rules rule) event_of
@@ -118,7 +119,7 @@ module _ (rule : Rule) (h : House) (last : ℕ) (qs : List Request) where
 
   module _ (u : ℕ) (all : AllHold (lines_of rule (reached_desk rule h last qs).current (TakeBack u))) where
     allowed_back : (desk_rules rule).judge (reached_desk rule h last qs).current (TakeBack u) ≡ undo
-    allowed_back = ap (verdict_of (TakeBack u)) (allowed rule (reached_desk rule h last qs) (TakeBack u) Ruling.TakeBack refl all)
+    allowed_back = ap (verdict_of (TakeBack u)) (allowed rule (reached_desk rule h last qs) (TakeBack u) Grant.TakeBack refl all)
 
     -- a take-back by an administrator: "refused for want of one exactly when none of the last 32 is left by the counting rule" ..
     pub no_change_left : kept_now rule h last qs ≡ 0 → step (desk_rules rule) (reached_desk rule h last qs) (TakeBack u) ≡ outcome (reached_desk rule h last qs) (Answer.Refused 12)

@@ -15,7 +15,8 @@ use Rattle.opening.specs.Desks.{OpensDesk, opens_desk, desk_by}
 use Rattle.counter.specs.Numbers.{next_after, last_after}
 use Rattle.counter.specs.declared.Counter.{Counter}
 use Rattle.kept.specs.Log.{past}
-use Rattle.judge.specs.declared.Ruling.{Ruling}
+use Rattle.reasons.specs.declared.Reason.{Reason}
+use Rattle.judge.specs.declared.Grant.{Grant}
 use Rattle.history.specs.Machine.{Outcome, outcome, opened, ruled, step}
 use Rattle.history.specs.Desk as history
 use Rattle.history.specs.Desk.{verdict_of, desk_rules, shown, opened_under}
@@ -87,7 +88,7 @@ one_outcome d₁ d₂ r s p q =
     (ap (λ (o : Outcome House Change). o.desk) (determined p q), ap (λ (o : Outcome House Change). o.answer) (determined p q))
 
 -- two results of history::act: one_acted
-pub one_acted : (d : State) (request : Request) (ruling : Ruling) (d₁ d₂ : State) (r s : Answer)
+pub one_acted : (d : State) (request : Request) (ruling : Result Grant Reason) (d₁ d₂ : State) (r s : Answer)
     → ((rule : Rule) → outcome d₁ r ≡ ruled (desk_rules rule) d (verdict_of request ruling))
     → ((rule : Rule) → outcome d₂ s ≡ ruled (desk_rules rule) d (verdict_of request ruling)) → (d₁ ≡ d₂) × (r ≡ s)
 one_acted d request ruling d₁ d₂ r s p q = one_outcome d₁ d₂ r s (p Rule.One) (q Rule.One)

@@ -7,7 +7,7 @@ use Rattle.records.specs.House.{House}
 use Rattle.records.specs.declared.Rule.{Rule}
 use Rattle.effects.specs.declared.Change.{Change}
 use Rattle.judge.specs.Kinds.{grant_of}
-use Rattle.judge.proofs.Order.{granted_exactly, grant_is_none}
+use Rattle.judge.proofs.Order.{granted_exactly}
 use Rattle.history.specs.Machine.{Desk, Outcome, step}
 use Rattle.history.specs.Desk.{desk_rules}
 use Rattle.history.specs.declared.Answer.{Answer}
@@ -36,7 +36,7 @@ module _ (rule : Rule) (d : Desk House Change) (q : Request) where
       only_then g (back a k l t) = record { conditions = a; number_left = λ e. differ cc; change_left = λ _. l }
 
       always_then : Allowed rule d q → Way rule d q (step (desk_rules rule) d q) → grants answer ≡ true
-      always_then w (by_rule r e s) = absurd (grant_is_none q r (sym ((granted_exactly rule d.current q).1 w.conditions) ∙ e))
+      always_then w (by_rule r e s) = differ (let z = (granted_exactly rule d.current q).1 w.conditions in cc)
       always_then w (no_number a k l s) = absurd (w.number_left k l)
       always_then w (no_change a k l s) = absurd (w.change_left k l)
       always_then w (read a k s) = told s

@@ -1,4 +1,5 @@
 -- From a grant: every condition of the request's kind held.
+use Rattle.std.specs.Prelude.{Ok}
 use Prim.Native.Nat.{ℕ, zero, suc}
 use mathlib.Core.Path.{◌≡◌, refl, sym, ap, ◌∙◌}
 use mathlib.Core.Bool.{Bool, true, false}
@@ -8,11 +9,10 @@ use Rattle.records.specs.declared.Rule.{Rule}
 use Rattle.request.specs.declared.Request.{Request}
 use Rattle.reasons.specs.Asking.{Line, ◌unless◌, ◌because◌, AllHold, none, more}
 use Rattle.reasons.proofs.Order.{Verdict, grant, refusal, verdict}
-use Rattle.judge.specs.declared.Ruling.{Ruling}
-use Rattle.judge.specs.declared.Ruling.TheVariants.{Refused, Pass, Keep, KeepNumbered, TakeBack}
+use Rattle.judge.specs.declared.Grant.{Grant}
+use Rattle.judge.specs.declared.Grant.TheVariants.{Pass, Keep, KeepNumbered, TakeBack}
 use Rattle.judge.specs.Kinds.{lines_of, grant_of, ruling_of}
 use Rattle.judge.proofs.Order.{all_granted, first_refused}
-use Rattle.rules.proofs.Bools.{clash}
 
 -- the fact of line k; the first is line 0
 abbrev pub fact_at : List Line → ℕ → Bool
@@ -29,23 +29,16 @@ each_holds none k = refl
 each_holds (more e a) zero = e
 each_holds (more e a) (suc k) = each_holds a k
 
-abbrev pub is_grant : Ruling → Bool
-is_grant (Refused r) = false
-is_grant Pass = true
-is_grant Keep = true
-is_grant KeepNumbered = true
-is_grant TakeBack = true
-
 -- a request that is offered a grant where the lines hold, and was granted g
-pub record Granted (offered : Ruling) (lines : List Line) (g : Ruling) : Type 0 where
+pub record Granted (offered : Grant) (lines : List Line) (g : Grant) : Type 0 where
   pub given : offered ≡ g
   pub hold : Hold lines
 
 -- a granted request: all conditions of its kind hold, and the grant is the kind's own
-pub conditions : (rule : Rule) (h : House) (q : Request) (g : Ruling) → is_grant g ≡ true → ruling_of rule h q ≡ g → Granted (grant_of q) (lines_of rule h q) g
+pub conditions : (rule : Rule) (h : House) (q : Request) (g : Grant) → ruling_of rule h q ≡ Ok g → Granted (grant_of q) (lines_of rule h q) g
 unfolding ruling_of
-conditions rule h q g t e = go (verdict (lines_of rule h q))
+conditions rule h q g e = go (verdict (lines_of rule h q))
   where
     go : Verdict (lines_of rule h q) → Granted (grant_of q) (lines_of rule h q) g
-    go (grant a) = record { given = sym (all_granted (grant_of q) a) ∙ e; hold = each_holds a }
-    go (refusal r f) = clash t (ap is_grant (sym e ∙ first_refused (grant_of q) f))
+    go (grant a) = record { given = cc (all_granted (grant_of q) a); hold = each_holds a }
+    go (refusal r f) = cc (first_refused (grant_of q) f)

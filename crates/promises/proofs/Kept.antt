@@ -1,4 +1,5 @@
 -- Every granted change keeps the record rules. 01: "Every desk reached from an opening meets these record rules".
+use Rattle.std.specs.Prelude.{Ok}
 use Prim.Native.Nat.{ℕ, zero, suc, ◌+◌, ◌≤◌, ◌<◌}
 use mathlib.Core.Path.{◌≡◌, refl, subst}
 use mathlib.Core.Bool.{Bool, true, false, not, ◌||◌}
@@ -17,13 +18,13 @@ use Rattle.request.specs.declared.Request.{Request}
 use Rattle.request.specs.Writing.{Field, one, two, spelling}
 use Rattle.leads.specs.Leads.{lead_count}
 use Rattle.effects.specs.Effects.{effect}
-use Rattle.judge.specs.declared.Ruling.{Ruling}
-use Rattle.judge.specs.declared.Ruling.TheVariants.{Refused, Pass, Keep, KeepNumbered}
+use Rattle.judge.specs.declared.Grant.{Grant}
+use Rattle.judge.specs.declared.Grant.TheVariants.{Pass, Keep, KeepNumbered}
 use Rattle.fields.specs.Fields.{is_id, to_sixteen, from_one, is_sort, is_plain, is_first}
 use Rattle.conditions.specs.Conditions.{no_users, is_user, is_staff, opening}
 use Rattle.conditions.specs.Labels.{Covered}
 use Rattle.reasons.specs.Shared.{pair_numbers, pair_led, draft_led, opens, covers, as_script, imports, draft_asked}
-use Rattle.judge.specs.Kinds.{enrol_where, establish_lines, import_lines, disband_lines, create_lines, kill_lines, lines_of, grant_of, ruling_of}
+use Rattle.judge.specs.Kinds.{enrol_numbers, enrol_where, establish_lines, import_numbers, import_exists, import_lines, disband_lines, create_lines, kill_lines, lines_of, grant_of, ruling_of}
 use Rattle.rules.specs.Rules.{rules}
 use Rattle.rules.specs.Facts.{RoomNumber, LabelFits, Administered, Rules}
 use Rattle.promises.specs.Fits.{field_fits, fits}
@@ -95,17 +96,16 @@ opens_of : (u : User) (level c : ℕ) → not (opening u level c).level ≡ true
 opens_of u level c l k = (covered house u.level u.categories house level c).says ((itself and itself).shown (l, k))
 
 -- what a grant of the request q promises; n is the number of a change that takes none
-abbrev Next : House → ℕ → ℕ → Request → Ruling → Type 0
-Next h last n q (Refused r) = Unit {0}
+abbrev Next : House → ℕ → ℕ → Request → Grant → Type 0
 Next h last n q Pass = Unit {0}
 Next h last n q Keep = Rules (effect h n q) last
 Next h last n q KeepNumbered = last < 4294967295 → Rules (effect h (last + 1) q) (last + 1)
-Next h last n q Ruling.TakeBack = Unit {0}
+Next h last n q Grant.TakeBack = Unit {0}
 
 module _ (rule : Rule) (h : House) (last : ℕ) (R : Rules h last) where
   -- where f k says that condition k of the kind holds
   next : (n : ℕ) (q : Request) → fits q ≡ true → Hold (lines_of rule h q) → Next h last n q (grant_of q)
-  unfolding enrol_where establish_lines pair_numbers pair_led draft_led import_lines disband_lines opens covers as_script imports draft_asked create_lines kill_lines
+  unfolding enrol_numbers enrol_where establish_lines pair_numbers pair_led draft_led import_numbers import_exists import_lines disband_lines opens covers as_script imports draft_asked create_lines kill_lines
   next n (Request.Enrol u new sort level c admin) w f =
       let s = sort_of sort (f 3) in
       let l = label_of level c (f 2) (field_of (Request.Enrol u new sort level c admin) w 4) in
@@ -148,15 +148,15 @@ module _ (rule : Rule) (h : House) (last : ℕ) (meets : rules h last ≡ true) 
   R = (rules_are h last).says meets
 
   -- "Kept changes": a granted request that takes no draft number keeps the rules, whatever n
-  pub kept : (q : Request) → fits q ≡ true → ruling_of rule h q ≡ Keep → (n : ℕ) → rules (effect h n q) last ≡ true
+  pub kept : (q : Request) → fits q ≡ true → ruling_of rule h q ≡ Ok Keep → (n : ℕ) → rules (effect h n q) last ≡ true
   kept q w e n =
-      let g = conditions rule h q Keep refl e in
+      let g = conditions rule h q Keep e in
       (rules_are (effect h n q) last).shown (subst (Next h last n q) g.given (next rule h last R n q w g.hold))
 
   -- "granted with a draft number (09, 14, 15)": such a request keeps the rules with the next number, which is then the last one issued
-  pub kept_numbered : (q : Request) → fits q ≡ true → ruling_of rule h q ≡ KeepNumbered → last < 4294967295 → rules (effect h (last + 1) q) (last + 1) ≡ true
+  pub kept_numbered : (q : Request) → fits q ≡ true → ruling_of rule h q ≡ Ok KeepNumbered → last < 4294967295 → rules (effect h (last + 1) q) (last + 1) ≡ true
   kept_numbered q w e l =
-      let g = conditions rule h q KeepNumbered refl e in
+      let g = conditions rule h q KeepNumbered e in
       (rules_are (effect h (last + 1) q) (last + 1)).shown (subst (Next h last 0 q) g.given (next rule h last R 0 q w g.hold) l)
 
   -- "the counter stays": records that met the rules once meet them with every later counter

@@ -1,6 +1,7 @@
 -- 01: "Every desk reached from an opening meets these record rules".
+use Rattle.std.specs.Prelude.{Ok}
 use Prim.Native.Nat.{ℕ, zero, suc, ◌+◌, ◌≤◌, ◌<◌}
-use mathlib.Core.Path.{◌≡◌, sym, ◌∙◌, subst}
+use mathlib.Core.Path.{ap, ◌≡◌, sym, ◌∙◌, subst}
 use mathlib.Core.Bool.{true}
 use mathlib.Core.List.{List, [], ◌∷◌}
 use native.Mathlib.Omega.{arith}
@@ -12,8 +13,8 @@ use Rattle.records.specs.declared.Rule.{Rule}
 use Rattle.effects.specs.Effects.{change_of, applied}
 use Rattle.effects.specs.declared.Change.{Change}
 use Rattle.reasons.specs.Asking.{AllHold}
-use Rattle.judge.specs.declared.Ruling.{Ruling}
-use Rattle.judge.specs.declared.Ruling.TheVariants.{Keep, KeepNumbered}
+use Rattle.judge.specs.declared.Grant.{Grant}
+use Rattle.judge.specs.declared.Grant.TheVariants.{Keep, KeepNumbered}
 use Rattle.judge.specs.Kinds.{lines_of, grant_of, ruling_of}
 use Rattle.judge.proofs.Order.{granted_exactly}
 use Rattle.counter.specs.Numbers.{top}
@@ -49,8 +50,8 @@ module _ (rule : Rule) (d : Desk House Change) (S : Fine rule d) where
       so : {o : Outcome House Change} → step (desk_rules rule) d q ≡ o → Fine rule o.desk → Fine rule (step (desk_rules rule) d q).desk
       so e f = subst (λ (o : Outcome House Change). Fine rule o.desk) (sym e) f
 
-      ruling : (g : Ruling) → grant_of q ≡ g → AllHold (lines_of rule d.current q) → ruling_of rule d.current q ≡ g
-      ruling g e a = (granted_exactly rule d.current q).1 a ∙ e
+      ruling : (g : Grant) → grant_of q ≡ g → AllHold (lines_of rule d.current q) → ruling_of rule d.current q ≡ Ok g
+      ruling g e a = (granted_exactly rule d.current q).1 a ∙ ap Ok e
 
       keeps : (c : Change) (n : ℕ) → d.last ≤ n → n ≤ top → rules (applied d.current c) n ≡ true → Fine rule (keep_change (desk_rules rule) d c n)
       keeps c n le fits_in next =

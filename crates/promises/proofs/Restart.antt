@@ -1,5 +1,5 @@
 -- A desk saved and opened again goes on: with the same records, with larger numbers, and where nothing is taken back with the same answers.
-use Rattle.std.specs.Prelude.{Option, Some, None}
+use Rattle.std.specs.Prelude.{Option, Some, None, Result, Ok, Err}
 use Prim.Native.Nat.{ℕ, ◌-◌}
 use mathlib.Core.Path.{◌≡◌, refl, sym, ap, ◌∙◌, subst}
 use mathlib.Core.Bool.{Bool, true, false, cond}
@@ -13,8 +13,9 @@ use Rattle.records.specs.Lists.{all}
 use Rattle.records.specs.House.{House}
 use Rattle.records.specs.declared.Rule.{Rule}
 use Rattle.judge.specs.Kinds.{grant_of, ruling_of}
-use Rattle.judge.specs.declared.Ruling.{Ruling}
-use Rattle.judge.specs.declared.Ruling.TheVariants.{Pass, Keep, KeepNumbered}
+use Rattle.reasons.specs.declared.Reason.{Reason}
+use Rattle.judge.specs.declared.Grant.{Grant}
+use Rattle.judge.specs.declared.Grant.TheVariants.{Pass, Keep, KeepNumbered}
 use Rattle.counter.specs.Numbers.{next_after}
 use Rattle.history.specs.declared.Answer.{Answer}
 use Rattle.history.specs.declared.Answer.TheVariants.{Granted, Refused}
@@ -110,19 +111,19 @@ module _ {S C Q : Type 0} (R : Rulebook S C Q) where
 never_undone : (rule : Rule) (q : Request) → (IsTakeBack q → ⊥) → (h : House) → (desk_rules rule).judge h q ≡ undo → ⊥
 never_undone rule q no-back h e = go (ruling_of rule h q) refl e
   where
-    offered : grant_of q ≡ Ruling.TakeBack → ⊥
+    offered : grant_of q ≡ Grant.TakeBack → ⊥
     offered e = by_kind (change_kept q (record { no_read = λ r. differ (let p = read_passes r in cc); no_take_back = no-back }))
       where
         by_kind : (grant_of q ≡ Keep) ⊎ (grant_of q ≡ KeepNumbered) → ⊥
         by_kind (inl k) = differ cc
         by_kind (inr k) = differ cc
 
-    go : (r : Ruling) → ruling_of rule h q ≡ r → verdict_of q r ≡ undo → ⊥
-    go (Ruling.Refused r) k w = differ cc
-    go Pass k w = differ cc
-    go Keep k w = differ cc
-    go KeepNumbered k w = differ cc
-    go Ruling.TakeBack k w = offered (conditions rule h q Ruling.TakeBack refl k).given
+    go : (r : Result Grant Reason) → ruling_of rule h q ≡ r → verdict_of q r ≡ undo → ⊥
+    go (Err r) k w = differ cc
+    go (Ok Pass) k w = differ cc
+    go (Ok Keep) k w = differ cc
+    go (Ok KeepNumbered) k w = differ cc
+    go (Ok Grant.TakeBack) k w = offered (conditions rule h q Grant.TakeBack k).given
 
 each_never : (rule : Rule) (qs : List Request) → Each (λ q. IsTakeBack q → ⊥) qs → Each (λ q. (h : House) → (desk_rules rule).judge h q ≡ undo → ⊥) qs
 each_never rule [] e = tt

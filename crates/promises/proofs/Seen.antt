@@ -18,7 +18,7 @@ use Rattle.effects.specs.Elements.{draft_of, placed_at, unplaced}
 use Rattle.effects.specs.Effects.{change_of, swept, less_one, effect, applied}
 use Rattle.effects.specs.declared.Change.{Change}
 use Rattle.judge.specs.Kinds.{grant_of}
-use Rattle.judge.specs.declared.Ruling.TheVariants.{KeepNumbered}
+use Rattle.judge.specs.declared.Grant.TheVariants.{KeepNumbered}
 use Rattle.history.specs.Machine.{Desk, Outcome, opened, keep_change, step, run, answers}
 use Rattle.history.specs.Desk.{desk_rules}
 use Rattle.history.specs.declared.Answer.{Answer}

@@ -1,4 +1,5 @@
 -- The ways of one request at any desk: what the answer was, why, and what the desk is then.
+use Rattle.std.specs.Prelude.{Err}
 use mathlib.Core.Path.{◌≡◌, refl, ap}
 use Prim.Native.Nat.{◌+◌}
 use native.Mathlib.Decide.{ℕ_discrete}
@@ -11,9 +12,9 @@ use Rattle.reasons.specs.Asking.{AllHold}
 use Rattle.reasons.specs.declared.Reason.{Reason}
 use Rattle.reasons.proofs.Order.{Verdict, grant, refusal, verdict}
 use Rattle.judge.specs.Kinds.{lines_of, grant_of, ruling_of}
-use Rattle.judge.specs.declared.Ruling.{Ruling}
-use Rattle.judge.specs.declared.Ruling.TheVariants.{Pass, Keep, KeepNumbered, TakeBack}
-use Rattle.judge.proofs.Order.{refused_exactly, grant_is_none}
+use Rattle.judge.specs.declared.Grant.{Grant}
+use Rattle.judge.specs.declared.Grant.TheVariants.{Pass, Keep, KeepNumbered, TakeBack}
+use Rattle.judge.proofs.Order.{refused_exactly}
 use Rattle.counter.specs.Numbers.{top}
 use Rattle.history.specs.Machine.{undo, Desk, Outcome, outcome, keep_change, step}
 use Rattle.effects.specs.Effects.{change_of}
@@ -24,7 +25,7 @@ use Rattle.promises.proofs.Trace.{none_left, some_left}
 use Rattle.promises.proofs.Demands.{allowed, refused, passed, made, numbered, spent}
 
 pub data Way (rule : Rule) (d : Desk House Change) (q : Request) (o : Outcome House Change) : Type 0 where
-  by_rule : (r : Reason) → ruling_of rule d.current q ≡ Ruling.Refused r → o ≡ outcome d (Answer.Refused r.number) → Way rule d q o
+  by_rule : (r : Reason) → ruling_of rule d.current q ≡ Err r → o ≡ outcome d (Answer.Refused r.number) → Way rule d q o
   no_number : AllHold (lines_of rule d.current q) → grant_of q ≡ KeepNumbered → d.last ≡ top → o ≡ outcome d (Answer.Refused 11) → Way rule d q o
   no_change : AllHold (lines_of rule d.current q) → grant_of q ≡ TakeBack → length d.log ≡ 0 → o ≡ outcome d (Answer.Refused 12) → Way rule d q o
   read : AllHold (lines_of rule d.current q) → grant_of q ≡ Pass → o ≡ outcome d Answer.Granted → Way rule d q o
@@ -36,8 +37,7 @@ pub data Way (rule : Rule) (d : Desk House Change) (q : Request) (o : Outcome Ho
 pub way : (rule : Rule) (d : Desk House Change) (q : Request) → Way rule d q (step (desk_rules rule) d q)
 way rule d q = go (verdict (lines_of rule d.current q))
   where
-    by_grant : (r : Ruling) → grant_of q ≡ r → AllHold (lines_of rule d.current q) → Way rule d q (step (desk_rules rule) d q)
-    by_grant (Ruling.Refused r) e a = absurd (grant_is_none q r e)
+    by_grant : (g : Grant) → grant_of q ≡ g → AllHold (lines_of rule d.current q) → Way rule d q (step (desk_rules rule) d q)
     by_grant Pass e a = read a e (passed rule d q e a)
     by_grant Keep e a = plain a e (made rule d q e a)
     by_grant KeepNumbered e a = go (ℕ_discrete d.last top)

@@ -4,8 +4,8 @@ use Rattle.std.specs.Prelude.{ℕ, List}
 use Rattle.request.specs.declared.Request.{Request}
 use Rattle.effects.specs.declared.Change.{Change}
 use Rattle.judge.specs.Kinds.{grant_of}
-use Rattle.judge.specs.declared.Ruling.{Ruling}
-use Rattle.judge.specs.declared.Ruling.TheVariants.{Refused, Pass, Keep, KeepNumbered, TakeBack}
+use Rattle.judge.specs.declared.Grant.{Grant}
+use Rattle.judge.specs.declared.Grant.TheVariants.{Pass, Keep, KeepNumbered, TakeBack}
 use Rattle.records.specs.House.{House}
 use Rattle.records.specs.declared.Rule.{Rule}
 use Rattle.history.specs.Machine.{Desk, opened, run, answers}
@@ -15,12 +15,11 @@ use Rattle.history.specs.declared.Answer.{Answer}
 use Rattle.promises.specs.Book.{Event, kept, back, nothing, events, kept_count}
 
 -- a plain grant, by what the kind is granted
-abbrev pub grant_shows : Request → Ruling → Event Change
+abbrev pub grant_shows : Request → Grant → Event Change
 grant_shows q Keep = kept (change_of q 0)
 grant_shows q TakeBack = back
 grant_shows q Pass = nothing
 grant_shows q KeepNumbered = nothing
-grant_shows q (Refused r) = nothing
 
 abbrev pub event_of : Request → Answer → Event Change
 event_of q Answer.Granted = grant_shows q (grant_of q)

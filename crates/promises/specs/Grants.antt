@@ -9,8 +9,8 @@ use Rattle.effects.specs.declared.Change.{Change}
 use Rattle.reasons.specs.Asking.{AllHold}
 use Rattle.reasons.specs.Order.{is_refusal}
 use Rattle.judge.specs.Kinds.{lines_of, grant_of, refusals}
-use Rattle.judge.specs.declared.Ruling.{Ruling}
-use Rattle.judge.specs.declared.Ruling.TheVariants.{Pass, Keep, KeepNumbered, TakeBack}
+use Rattle.judge.specs.declared.Grant.{Grant}
+use Rattle.judge.specs.declared.Grant.TheVariants.{Pass, Keep, KeepNumbered, TakeBack}
 use Rattle.counter.specs.Numbers.{top}
 use Rattle.history.specs.Machine.{Desk, Outcome}
 use Rattle.history.specs.Desk.{answer_bytes}
@@ -35,12 +35,11 @@ pub record GrantedExactly (rule : Rule) (d : Desk House Change) (q : Request) (a
   pub allowed_granted : Allowed rule d q → grants a ≡ true
 
 -- the grant of a kind: "one more" than the last number where the kind gets one
-abbrev pub grant_after : ℕ → Ruling → Answer
+abbrev pub grant_after : ℕ → Grant → Answer
 grant_after last KeepNumbered = Numbered (last + 1)
 grant_after last Keep = Granted
 grant_after last Pass = Granted
 grant_after last TakeBack = Granted
-grant_after last (Ruling.Refused r) = Refused r.number
 
 -- the numbers that a kind can be refused with: those of its row of the refusal table; 11 "the last number issued is 4,294,967,295" where it gets a number;
 -- 12 "the kept count is 0" for Take back
