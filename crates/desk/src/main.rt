@@ -118,12 +118,7 @@ fn save_image(
 
 // The input is answered, and the desk as it then stands is saved where that is asked for: also where a line could not be printed or a read failed, since
 // the numbers that were given may have been seen.
-fn answer(
-    rt: &HostRuntime,
-    why: bool,
-    save: Option<usize>,
-    desk: &mut LentDesk,
-) -> Result<(), Told>
+fn answer(rt: &HostRuntime, why: bool, save: Option<usize>, desk: &mut LentDesk) -> Result<(), Told>
     requires { JustOpened desk.old.rule (lent desk.old) }
 {
     let mut buf = [0; 1024];

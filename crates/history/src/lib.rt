@@ -29,7 +29,6 @@ pub struct Desk {
 
 impl Desk {
     // Without records and kept changes, no number issued, under rule 1.
-    #[tactic(auto, using(records::proofs::Views::view_zeros, kept::proofs::Ring::past_zeros))]
     pub fn empty() -> Desk
         ensures { (shown result.base result.log result.current result.last ≡ opened empty_house 0) × (result.rule ≡ Rule.One) }
     {

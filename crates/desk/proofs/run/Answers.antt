@@ -46,9 +46,8 @@ loop-turns-preserved c =
     let l = c.loop-turns in
     let h = l.invariant.1 in
     let a = c.answer_piece-turn in
-    let x = (goal.at.loop-turns-preserved c).After-answer_piece-turn in
-    (
+    let x = (goal.at.loop-turns-preserved c).After-answer_piece-turn in (
       parts x,
       again h (filled l.buf l.have c.read_piece.new.buf) (filled_same l.buf l.have c.read_piece.new.buf (inside x)) c.in_ok-got.got (room x) (size x ∙ h.buf_length) a.result a.new.buf a.new.out
-      (rw l.invariant.0.rule at a.ensures.done) (a.auto.buf ∙ size x ∙ h.buf_length) (a.auto.out ∙ h.out_length) (not-false _ c.if-not-turn.false),
+          (rw l.invariant.0.rule at a.ensures.done) (a.auto.buf ∙ size x ∙ h.buf_length) (a.auto.out ∙ h.out_length) (not-false _ c.if-not-turn.false),
     )

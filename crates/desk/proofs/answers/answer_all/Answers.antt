@@ -17,8 +17,7 @@ pub loop-used-preserved : goal.loop-used-preserved
 loop-used-preserved c =
     let n = c.answer_next-next in
     let h = c.loop-used.invariant in
-    let made = rw h.0.rule at n.ensures.done in
-    (
+    let made = rw h.0.rule at n.ensures.done in (
       same_on h.0 n.ensures.parts,
       n.auto.out ∙ h.1,
       goes h.2 c.args.out.now (omega (arith, c.if-requests-used.false)) n.result n.new.out made c.if-next-eq0.false,
