@@ -47,12 +47,14 @@ pub fn put_user(records: &mut Cells, i: usize, user: User)
     records[at + 6] = u32::from(user.admin);
 }
 
+#[tactic(auto, unfolding(crate::specs::House::view))]
 pub fn rooms(records: &Cells) -> u32
     ensures { result ≡ (view records.now).rooms }
 {
     records[0]
 }
 
+#[tactic(auto, using(crate::proofs::Views::view_rooms))]
 pub fn put_rooms(records: &mut Cells, rooms: u32)
     ensures { view records.new ≡ put_rooms (view records.old) rooms }
 {

@@ -50,6 +50,7 @@ pub fn find_script(records: &Cells, script: u8) -> Option<usize>
 
 // ---- drafts
 // How many drafts live: at most 256, whatever the cell says.
+#[tactic(auto, using(crate::proofs::Views::count_drafts))]
 pub fn draft_count(records: &Cells) -> usize
     ensures { (result ≡ length (view records.now).drafts) × (result ≤ 256) }
 {
@@ -93,6 +94,7 @@ pub fn put_draft(records: &mut Cells, i: usize, draft: Draft)
 }
 
 // The first n drafts, where more live.
+#[tactic(auto, using(crate::proofs::Views::view_cut))]
 pub fn cut_drafts(records: &mut Cells, n: usize)
     ensures { view records.new ≡ cut_drafts (view records.old) n }
 {
@@ -103,6 +105,7 @@ pub fn cut_drafts(records: &mut Cells, n: usize)
 }
 
 // One draft more, behind the others, where there is room for it.
+#[tactic(auto, using(crate::proofs::Views::view_add, crate::proofs::Views::add_full, crate::proofs::Views::draft_again))]
 pub fn add_draft(records: &mut Cells, draft: Draft)
     ensures { view records.new ≡ add_draft (view records.old) draft }
 {
