@@ -13,6 +13,7 @@ pub fn no_user() -> User
     User::default()
 }
 
+#[tactic(auto, using(crate::proofs::Tables::table_at, crate::proofs::Tables::table_past, crate::proofs::Views::user_laid), unfolding(crate::specs::House::view))]
 pub fn user_at(records: &Cells, i: usize) -> User
     ensures { result ≡ user (view records.now) i }
 {

@@ -13,6 +13,7 @@ pub fn no_script() -> Script
     Script::default()
 }
 
+#[tactic(auto, using(crate::proofs::Tables::table_at, crate::proofs::Tables::table_past, crate::proofs::Views::script_laid), unfolding(crate::specs::House::view))]
 pub fn script_at(records: &Cells, i: usize) -> Script
     ensures { result ≡ script (view records.now) i }
 {
@@ -58,6 +59,7 @@ pub fn draft_count(records: &Cells) -> usize
     if n < 256 { n } else { 256 }
 }
 
+#[tactic(auto, using(crate::proofs::Views::live_at))]
 pub fn draft_at(records: &Cells, i: usize) -> Draft
     ensures { result ≡ draft_at (view records.now) i }
 {
