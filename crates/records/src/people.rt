@@ -13,6 +13,7 @@ pub fn no_user() -> User
     User::default()
 }
 
+#[tactic(auto, using(crate::proofs::Tables::table_at, crate::proofs::Tables::table_past, crate::proofs::Views::user_laid), unfolding(crate::specs::House::view))]
 pub fn user_at(records: &Cells, i: usize) -> User
     ensures { result ≡ user (view records.now) i }
 {
@@ -47,12 +48,14 @@ pub fn put_user(records: &mut Cells, i: usize, user: User)
     records[at + 6] = u32::from(user.admin);
 }
 
+#[tactic(auto, unfolding(crate::specs::House::view))]
 pub fn rooms(records: &Cells) -> u32
     ensures { result ≡ (view records.now).rooms }
 {
     records[0]
 }
 
+#[tactic(auto, using(crate::proofs::Views::view_rooms))]
 pub fn put_rooms(records: &mut Cells, rooms: u32)
     ensures { view records.new ≡ put_rooms (view records.old) rooms }
 {

@@ -11,6 +11,7 @@ pub fn no_session() -> Session
     Session::default()
 }
 
+#[tactic(auto, using(crate::proofs::Tables::table_at, crate::proofs::Tables::table_past, crate::proofs::Views::session_laid), unfolding(crate::specs::House::view))]
 pub fn session_at(records: &Cells, i: usize) -> Session
     ensures { result ≡ session (view records.now) i }
 {

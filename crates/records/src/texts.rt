@@ -13,6 +13,7 @@ pub fn no_script() -> Script
     Script::default()
 }
 
+#[tactic(auto, using(crate::proofs::Tables::table_at, crate::proofs::Tables::table_past, crate::proofs::Views::script_laid), unfolding(crate::specs::House::view))]
 pub fn script_at(records: &Cells, i: usize) -> Script
     ensures { result ≡ script (view records.now) i }
 {
@@ -50,6 +51,7 @@ pub fn find_script(records: &Cells, script: u8) -> Option<usize>
 
 // ---- drafts
 // How many drafts live: at most 256, whatever the cell says.
+#[tactic(auto, using(crate::proofs::Views::count_drafts))]
 pub fn draft_count(records: &Cells) -> usize
     ensures { (result ≡ length (view records.now).drafts) × (result ≤ 256) }
 {
@@ -57,6 +59,7 @@ pub fn draft_count(records: &Cells) -> usize
     if n < 256 { n } else { 256 }
 }
 
+#[tactic(auto, using(crate::proofs::Views::live_at))]
 pub fn draft_at(records: &Cells, i: usize) -> Draft
     ensures { result ≡ draft_at (view records.now) i }
 {
@@ -93,6 +96,7 @@ pub fn put_draft(records: &mut Cells, i: usize, draft: Draft)
 }
 
 // The first n drafts, where more live.
+#[tactic(auto, using(crate::proofs::Views::view_cut))]
 pub fn cut_drafts(records: &mut Cells, n: usize)
     ensures { view records.new ≡ cut_drafts (view records.old) n }
 {
@@ -103,6 +107,7 @@ pub fn cut_drafts(records: &mut Cells, n: usize)
 }
 
 // One draft more, behind the others, where there is room for it.
+#[tactic(auto, using(crate::proofs::Views::view_add, crate::proofs::Views::add_full, crate::proofs::Views::draft_again))]
 pub fn add_draft(records: &mut Cells, draft: Draft)
     ensures { view records.new ≡ add_draft (view records.old) draft }
 {
