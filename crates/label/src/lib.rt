@@ -24,6 +24,7 @@ pub struct Parts {
     pub place: bool,
 }
 
+// The numbers that C passes for the two ends.
 const HIGH_NUMBER: u32 = 0xFF00_0000;
 
 const LOW_NUMBER: u32 = 0xFE00_0000;

@@ -30,6 +30,7 @@ pub use shared::{draft_asked, draft_led, pair_led, pair_numbers};
 pub use texts::{among, draft_exists, imports, not_among, of_origin, script_exists, script_new};
 
 // The refusal's number, the kind and id of the record that decided (0 and 0 where none did), the value that it holds, the value wanted.
+// A number, and no enum: 01 and the pages name a refusal by it alone, `lowest` compares numbers, and C reads it and the kind.
 #[derive(Clone, Copy)]
 pub struct Reason {
     pub number: u8,

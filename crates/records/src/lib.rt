@@ -29,6 +29,9 @@ const SESSIONS: usize = 706;
 
 const DRAFTS: usize = 1090;
 
+// Whether an element is there is a field, and no Option, and a sort is a number: `view` shows what the cells hold, and C lends any cells, so that an absent
+// user may have a lead, which `lead_count` counts.
+//
 // Sort: 0 staff, 1 freelancer, 2 outsider. Rooms and leads are sets: the rooms joined, the rooms led.
 #[derive(Clone, Copy, PartialEq, Eq, Default)]
 pub struct User {
