@@ -3,7 +3,7 @@ use Rattle.history.specs.Desk.{shown}
 use Rattle.desk.proofs.Loop.{Between}
 use Rattle.desk.proofs.run.Given as goal
 
-abbrev pub invariant-loop-turns : goal.invariant-loop-turns
-invariant-loop-turns l =
+abbrev pub invariant-loop-turn : goal.invariant-loop-turn
+invariant-loop-turn l =
     Between l.rule l.why (shown l.initial.base l.initial.log l.initial.current l.initial.last)
-    (shown l.base l.log l.current l.last) l.ordinal l.have l.turns l.buf l.out
+    (shown l.base l.log l.current l.last) l.ordinal l.have l._turn l.buf l.out
