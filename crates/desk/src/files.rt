@@ -47,6 +47,7 @@ fn read_some(
 }
 
 // The bytes of a file up to its end, or as many as there is room for.
+// A loop, since `read_to_end` wants a Vec and `read_exact` fails on a shorter file.
 fn read_all(
     rt: &HostRuntime,
     file: &mut File,
