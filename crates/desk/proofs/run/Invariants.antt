@@ -5,4 +5,4 @@ use Rattle.desk.proofs.run.Given as goal
 
 abbrev pub invariant-loop-turn : goal.invariant-loop-turn
 invariant-loop-turn l =
-    SameParts l.initial.desk l.desk × Between l.initial.desk.rule l.why (lent l.initial.desk) (lent l.desk) l.ordinal l.have l.turns l.buf l.out
+    SameParts l.initial.desk l.desk × Between l.initial.desk.rule l.why (lent l.initial.desk) (lent l.desk) l.ordinal l.have l._turn l.buf l.out
