@@ -160,6 +160,7 @@ pub fn importing(records: &Cells, rule: Rule, k2: usize, k1: usize) -> Parts
     }
 }
 
+// The label of a session, and of a script: they have no field in common by name, so that nothing is shared but the shape.
 fn session_label(records: &Cells, s: usize) -> Label
     ensures { result ≡ session_label (session (view records.now) s) }
 {

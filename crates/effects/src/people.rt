@@ -10,7 +10,7 @@ use crate::texts::{cut_places, shut_scripts, sweep, sweep_scripts};
 use records::{Cells, User};
 use sessions::Ending;
 
-// ---- one user
+// ---- one user; each of these is one expression, so that one function for several would be longer
 fn joined(user: User, room: u8) -> User
     ensures { result ≡ joined room user }
 {

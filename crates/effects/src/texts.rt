@@ -9,7 +9,7 @@ ghost use Rattle.effects.specs.Effects.{on_draft, removed, swept_drafts, swept_s
 
 use records::{Cells, Draft, Script};
 
-// ---- places of a draft
+// ---- places of a draft: one expression each, as for users
 fn placed_at(draft: Draft, place: u8) -> Draft
     ensures { result ≡ placed_at place draft }
 {

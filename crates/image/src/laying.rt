@@ -52,6 +52,7 @@ fn lay_head(last: u32, rule: Rule, out: &mut [u8]) -> usize
     lay_rule(rule, out, counter)
 }
 
+// A loop a table: three lines each, so that a closure for the element and its bytes would be no shorter.
 fn lay_users(records: &Cells, out: &mut [u8], at: usize) -> usize
     requires { at + 960 ≤ length out.old }
     ensures { Laid 960 out.old at (listed (written_if user_form (λ u. u.here)) 0 (view records.now).users) result out.new }

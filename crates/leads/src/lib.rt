@@ -7,7 +7,7 @@ ghost use Rattle.leads.specs.Leads.{leading, lead_ended, lead_count};
 
 use records::Cells;
 
-// Who is made a lead joins nothing.
+// Who is made a lead joins nothing. (Two functions, here and below: one that is passed `with` or `without` would be longer than both.)
 pub fn make_lead(records: &mut Cells, w: u8, room: u8)
     ensures { view records.new ≡ put_user (view records.old) w (leading room (user (view records.old) w)) }
 {

@@ -62,7 +62,7 @@ pub fn put_rooms(records: &mut Cells, rooms: u32)
     records[0] = rooms;
 }
 
-// ---- lookups
+// ---- lookups: one expression a table, so that a trait over the tables would be longer
 pub fn find_user(records: &Cells, u: u8) -> Option<usize>
     ensures { result ≡ find_user (view records.now) u }
 {

@@ -49,6 +49,7 @@ fn user_keeps(records: &Cells, user: User) -> bool
 }
 
 // ---- of all of them
+// One expression a table, here and for sessions.
 pub(crate) fn users_keep(records: &Cells) -> bool
     ensures { result ≡ all (user_keeps (view records.now)) (view records.now).users }
 {

@@ -16,6 +16,7 @@ pub enum Ending {
 }
 
 // ---- one is opened or ends
+// Two functions, here and below: one for both would be handed a flag, and a place that only an RW session has.
 pub fn open_writing(records: &mut Cells, u: u8, s: u8, level: u8, categories: u16, place: u8)
     ensures { view records.new ≡ put_session (view records.old) s (writing u level categories place) }
 {
