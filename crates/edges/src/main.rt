@@ -41,6 +41,7 @@ fn low_word(n: u64) -> u32 {
     (n % 4_294_967_296) as u32
 }
 
+// Of a hex digit. The same stands in lines: three lines are no crate.
 fn value(digit: u8) -> u8
     ensures { result < 16 }
 {

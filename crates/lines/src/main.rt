@@ -202,6 +202,7 @@ fn ruled(letter: u8, frame: &[u8], n: usize) -> u8 {
     }
 }
 
+// Of a hex digit. The same stands in edges: three lines are no crate.
 fn value(digit: u8) -> u8
     ensures { result < 16 }
 {

@@ -5,12 +5,7 @@ ghost use Rattle.image.specs.Forms.{fields_at};
 ghost use Rattle.image.specs.Image.{user_form, script_form, session_form, draft_form};
 
 use records::{Draft, Script, Session, User};
-
-pub(crate) fn byte_at(body: &[u8], i: usize) -> u8
-    ensures { result ≡ body.now # i }
-{
-    body.get(i).copied().unwrap_or(0)
-}
+use request::byte_at;
 
 fn pair_at(body: &[u8], at: u8) -> u16
     ensures { result ≡ pair_at body.now at }

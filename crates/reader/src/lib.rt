@@ -7,9 +7,9 @@ ghost use Rattle.std.specs.Prelude.{◌≡◌};
 ghost use Rattle.records.specs.House.{view};
 ghost use Rattle.reader.specs.Reading.{saved, blank, rows, find, length_at, taken_in, stopped, walked};
 
-use bodies::{byte_at, draft_of, quad_at, script_of, session_of, user_of};
+use bodies::{draft_of, quad_at, script_of, session_of, user_of};
 use records::{Cells, Rule};
-use request::FrameError;
+use request::{FrameError, byte_at};
 
 // How long the body of a kind is, where it is known.
 fn length_of(kind: u8) -> Option<usize>

@@ -7,7 +7,7 @@ mod writing;
 ghost use Rattle.std.specs.Prelude.{◌≡◌};
 ghost use Rattle.request.specs.Kinds.{body_length};
 
-pub use reading::{first, read, request_of, start_of};
+pub use reading::{byte_at, first, read, request_of, start_of};
 pub use writing::write;
 
 // One variant a kind; the fields stand in the order of their bytes. They hold any byte, also one that 3 refuses (`read_is_written`), so a sort is no enum.

@@ -5,11 +5,11 @@ ghost use Rattle.request.specs.Reading.{request_of, frame_of, start_of};
 
 use crate::{FrameBytes, FrameError, Request, UNKNOWN, body_length};
 
-// Byte i of a frame, zero past its end.
-fn byte_at(frame: &[u8], i: usize) -> u8
-    ensures { result ≡ frame.now # i }
+// Byte i of some bytes, zero past their end.
+pub fn byte_at(bytes: &[u8], i: usize) -> u8
+    ensures { result ≡ bytes.now # i }
 {
-    frame.get(i).copied().unwrap_or(0)
+    bytes.get(i).copied().unwrap_or(0)
 }
 
 // The request that a frame's bytes spell, the first of them its kind; of an unknown kind, for which nobody asks, a take-back.
