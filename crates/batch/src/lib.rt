@@ -10,7 +10,7 @@ use history::{Answer, Desk, LentDesk};
 use request::FrameError;
 
 // Why a batch ended: no bytes left, no answer room, an unknown kind, a cut body.
-#[derive(Clone, Copy)]
+#[derive(Clone, Copy, PartialEq, Eq)]
 pub enum Stop {
     End,
     NoRoom,
@@ -19,7 +19,7 @@ pub enum Stop {
 }
 
 // The stop, the request bytes used and the answer bytes written.
-#[derive(Clone, Copy)]
+#[derive(Clone, Copy, PartialEq, Eq)]
 pub struct Ran {
     pub stop: Stop,
     pub used: usize,

@@ -1,5 +1,5 @@
 -- How long the texts of a line are, and texts put into a buffer.
-use Rattle.std.proofs.Common.{◌≡◌, refl, sym, ap, subst, ◌∙◌, Bool, true, false, cond, List, [], ◌++◌, ℕ, ◌+◌, ◌-◌, ◌≤◌, arith, length, take, drop, length-append, append_assoc, append-nil}
+use Rattle.std.proofs.Common.{◌≡◌, refl, sym, subst, Bool, true, false, cond, List, [], ℕ, ◌≤◌, arith, length, take, length-append, append-nil}
 use Rattle.history.specs.declared.Answer.{Answer}
 use Rattle.history.specs.declared.Answer.TheVariants.{Granted, Numbered, Refused}
 use Rattle.reasons.specs.Reasons.{zeros}

@@ -5,7 +5,6 @@ use Rattle.records.specs.declared.Rule.{Rule}
 use Rattle.effects.specs.declared.Change.{Change}
 use Rattle.history.specs.Machine.{Desk}
 use Rattle.history.specs.Desk.{opens, opened_under}
-use Rattle.history.specs.declared.Answer.{Answer}
 use Rattle.opening.specs.Desks.{OpensDesk, opens_desk, desk_by}
 use Rattle.opening.specs.declared.OpenError.TheVariants.{NoImage}
 
@@ -15,5 +14,5 @@ file_by d bytes = cond (ltb 65536 (length bytes)) (opens_desk (Err NoImage) d Ru
 
 -- the desk d under the rule
 pub data JustOpened (rule : Rule) (d : Desk House Change) : Type 0 where
-  with_number : (last number : ℕ) → opens Answer.Granted d rule ≡ opened_under last number → JustOpened rule d
+  with_number : (last number : ℕ) → opens (Ok tt) d rule ≡ opened_under last number → JustOpened rule d
   with_image : (image : List ℕ) → opens_desk (Ok tt) d rule ≡ desk_by image → JustOpened rule d

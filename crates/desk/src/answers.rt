@@ -2,18 +2,17 @@
 ghost use Rattle.std.specs.Prelude.{◌≡◌, cond, ◌+◌, ◌*◌, ◌^◌, ◌<◌, ◌≤◌, length};
 ghost use Rattle.request.specs.Kinds.{body_length};
 ghost use Rattle.kept.specs.Log.{past};
-ghost use Rattle.history.specs.Desk.{shown};
+ghost use Rattle.history.specs.Lent.{lent, SameParts};
 ghost use Rattle.reasons.specs.Reasons.{zeros};
 ghost use Rattle.why.specs.Why.{reason_after};
 ghost use Rattle.desk.specs.Turns.{all_of};
 ghost use Rattle.desk.specs.Steps.{so_far, one_of, Made};
 
 use crate::lines::line;
-use history::Answer;
+use history::{Answer, LentDesk};
 use judge::Grant;
 use kept::Log;
 use reasons::Reason;
-use records::{Cells, Rule};
 use request::FrameError;
 
 // The ordinal of the next line, the request bytes used, where the lines collected end, and whether more is to be read.
@@ -56,11 +55,7 @@ fn reason_of(why: bool, log: &Log, last: u32, ruling: Result<Grant, Reason>) -> 
 // The first request: judged once, for the reason and for the answer. One that is cut waits for more bytes, unless the input ends with these.
 fn answer_next(
     why: bool,
-    base: &mut Cells,
-    log: &mut Log,
-    current: &mut Cells,
-    last: &mut u32,
-    rule: Rule,
+    desk: &mut LentDesk,
     ordinal: u64,
     requests: &[u8],
     ended: bool,
@@ -70,14 +65,15 @@ fn answer_next(
     requires requests_nonzero { 0 < length requests.now }
     requires ordinal_bound { ordinal + 1 < 2 ^ 64 }
     requires at_in_bounds { at + 136 ≤ length out.old }
-    ensures { Made (one_of rule why ended (shown base.old log.old current.old last.old) ordinal requests.now) out.old at (shown base.new log.new current.new last.new) result out.new }
+    ensures parts { SameParts desk.old desk.new }
+    ensures done { Made (one_of desk.old.rule why ended (lent desk.old) ordinal requests.now) out.old at (lent desk.new) result out.new }
 {
     let kind = requests[0];
     match request::read(requests) {
         Ok(request) => {
-            let ruling = judge::judge(current, rule, request);
-            let reason = reason_of(why, log, *last, ruling);
-            let answer = history::act(base, log, current, last, request, ruling);
+            let ruling = judge::judge(desk.current, desk.rule, request);
+            let reason = reason_of(why, desk.log, *desk.last, ruling);
+            let answer = desk.act(request, ruling);
             let text = line(why, ordinal, kind, answer, reason, out, at);
             let length = body_length(kind);
             so_far(ordinal + 1, length + 1, text, true)
@@ -101,18 +97,15 @@ fn answer_next(
 // All the requests of a piece, but for one that waits.
 pub(crate) fn answer_all(
     why: bool,
-    base: &mut Cells,
-    log: &mut Log,
-    current: &mut Cells,
-    last: &mut u32,
-    rule: Rule,
+    desk: &mut LentDesk,
     first: u64,
     requests: &[u8],
     ended: bool,
     out: &mut [u8],
 ) -> Progress
     requires { (first + length requests.now < 2 ^ 64) × (136 * length requests.now ≤ length out.old) }
-    ensures { Made (all_of rule why ended (shown base.old log.old current.old last.old) first requests.now) out.old 0 (shown base.new log.new current.new last.new) result out.new }
+    ensures parts { SameParts desk.old desk.new }
+    ensures done { Made (all_of desk.old.rule why ended (lent desk.old) first requests.now) out.old 0 (lent desk.new) result out.new }
 {
     let mut ordinal = first;
     let mut used: usize = 0;
@@ -122,9 +115,7 @@ pub(crate) fn answer_all(
             break !ended;
         }
         let rest = &requests[used..];
-        let next = answer_next(
-            why, base, log, current, last, rule, ordinal, rest, ended, out, text,
-        );
+        let next = answer_next(why, desk, ordinal, rest, ended, out, text);
         ordinal = next.ordinal;
         used += next.used;
         text = next.text;

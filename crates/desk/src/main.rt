@@ -12,15 +12,14 @@ ghost use Rattle.std.specs.Prelude.{◌≡◌, length, take};
 ghost use Rattle.desk.specs.Counts.{IsPrefixLen};
 ghost use Rattle.records.specs.House.{view};
 ghost use Rattle.image.specs.Image.{image_of};
-ghost use Rattle.history.specs.Desk.{shown};
+ghost use Rattle.history.specs.Lent.{lent, SamePlaces, SameParts};
 ghost use Rattle.opening.specs.Desks.{opens_desk};
 ghost use Rattle.desk.specs.Files.{Within};
 ghost use Rattle.desk.specs.Opened.{file_by, JustOpened};
 ghost use Rattle.desk.specs.Turns.{LedTo};
 
 use arguments::Arguments;
-use history::Answer;
-use kept::Log;
+use history::{Desk, LentDesk};
 use opening::OpenError;
 use records::{Cells, Rule};
 use std::env::{Env, FillError};
@@ -51,25 +50,20 @@ fn print_text(rt: &HostRuntime, text: &[u8]) -> Result<(), Told> {
 fn run(
     rt: &HostRuntime,
     why: bool,
-    base: &mut Cells,
-    log: &mut Log,
-    current: &mut Cells,
-    last: &mut u32,
-    rule: Rule,
+    desk: &mut LentDesk,
     buf: &mut [u8],
     out: &mut [u8],
 ) -> Result<(), Told>
-    requires just_opened { JustOpened rule (shown base.old log.old current.old last.old) }
+    requires just_opened { JustOpened desk.old.rule (lent desk.old) }
     requires buf_len { (length buf.old ≡ 1024) × (length out.old ≡ 139264) }
-    ensures { LedTo rule why (shown base.old log.old current.old last.old) (shown base.new log.new current.new last.new) }
+    ensures parts { SameParts desk.old desk.new }
+    ensures led { LedTo desk.old.rule why (lent desk.old) (lent desk.new) }
 {
     let mut ordinal = 1;
     let mut have = 0;
     for turns in 0..1125899906842624u64 {
         let got = read_piece(rt, &mut buf[have..])?;
-        let turn = pieces::answer_piece(
-            why, base, log, current, last, rule, ordinal, buf, have, got, out,
-        );
+        let turn = pieces::answer_piece(why, desk, ordinal, buf, have, got, out);
         print_text(rt, &out[..turn.text])?;
         if !turn.onward {
             return Ok(());
@@ -98,6 +92,7 @@ fn words(rt: &HostRuntime) -> Arguments {
 }
 
 // The image of the desk, at the front of a buffer that has room for any.
+#[tactic(auto, using(image::proofs::Ways::never_refused))]
 fn image_of(current: &Cells, last: u32, rule: Rule, out: &mut [u8]) -> usize
     requires { length out.old ≡ 4454 }
     ensures out_after { take result out.new ≡ image_of (view current.now) last rule }
@@ -123,26 +118,17 @@ fn save_image(
 
 // The input is answered, and the desk as it then stands is saved where that is asked for: also where a line could not be printed or a read failed, since
 // the numbers that were given may have been seen.
-fn answer(
-    rt: &HostRuntime,
-    why: bool,
-    save: Option<usize>,
-    base: &mut Cells,
-    log: &mut Log,
-    current: &mut Cells,
-    last: &mut u32,
-    rule: Rule,
-) -> Result<(), Told>
-    requires { JustOpened rule (shown base.old log.old current.old last.old) }
+fn answer(rt: &HostRuntime, why: bool, save: Option<usize>, desk: &mut LentDesk) -> Result<(), Told>
+    requires { JustOpened desk.old.rule (lent desk.old) }
 {
     let mut buf = [0; 1024];
     // Room for the lines of a piece of 1024 bytes: a request has one byte at least, and a line 136 at most.
     let mut out = [0; 139264];
-    let answered = run(rt, why, base, log, current, last, rule, &mut buf, &mut out);
+    let answered = run(rt, why, desk, &mut buf, &mut out);
     let Some(save) = save else {
         return answered;
     };
-    let saved = save_image(rt, save, current, *last, rule);
+    let saved = save_image(rt, save, desk.current, *desk.last, desk.rule);
     answered.and(saved)
 }
 
@@ -158,80 +144,40 @@ fn serve_new(
     rt: &HostRuntime,
     why: bool,
     save: Option<usize>,
-    number: u32,
-    rule_number: u32,
+    last: u32,
+    rule: u32,
+    desk: &mut LentDesk,
 ) -> Result<(), Told> {
-    let opened = history::open(number, rule_number);
-    let answered = opened.answer;
-    let desk = opened.desk;
-    let mut base = desk.base;
-    let mut log = desk.log;
-    let mut current = desk.current;
-    let mut last = desk.last;
-    let rule = desk.rule;
-    match answered {
-        Answer::Granted => answer(
-            rt,
-            why,
-            save,
-            &mut base,
-            &mut log,
-            &mut current,
-            &mut last,
-            rule,
-        ),
-        Answer::Numbered(_) => Ok(()),
-        Answer::Refused(n) => Err(tell_rule(rt, rule_number, n)),
+    match desk.open(last, rule) {
+        Ok(()) => answer(rt, why, save, desk),
+        Err(refusal) => Err(tell_rule(rt, rule, refusal.number())),
     }
 }
 
-fn open_file(
-    bytes: &[u8],
-    base: &mut Cells,
-    log: &mut Log,
-    current: &mut Cells,
-    last: &mut u32,
-    rule: &mut Rule,
-) -> Result<(), OpenError>
-    ensures { opens_desk result (shown base.new log.new current.new last.new) rule.new ≡ file_by (shown base.old log.old current.old last.old) bytes.now }
+fn open_file(bytes: &[u8], desk: &mut LentDesk) -> Result<(), OpenError>
+    ensures parts { SamePlaces desk.old desk.new }
+    ensures done { opens_desk result (lent desk.new) desk.new.rule ≡ file_by (lent desk.old) bytes.now }
 {
     if 65536 < bytes.len() {
-        *rule = Rule::One;
+        desk.rule = Rule::One;
         return Err(OpenError::NoImage);
     }
-    opening::open_desk(bytes, base, log, current, last, rule)
+    opening::open_desk(bytes, desk)
 }
 
 // The desk of an image. What is refused is told, and nothing is answered: the numbers of the empty desk would start again.
-fn serve_image(rt: &HostRuntime, why: bool, save: Option<usize>, from: usize) -> Result<(), Told> {
+fn serve_image(
+    rt: &HostRuntime,
+    why: bool,
+    save: Option<usize>,
+    from: usize,
+    desk: &mut LentDesk,
+) -> Result<(), Told> {
     // One byte more than a file may have that is tried as an image.
     let mut image = [0; 65537];
     let n = files::read_image(rt, from, &mut image)?;
-    let empty = history::open(0, 1);
-    let desk = empty.desk;
-    let mut base = desk.base;
-    let mut log = desk.log;
-    let mut current = desk.current;
-    let mut last = desk.last;
-    let mut rule = desk.rule;
-    match open_file(
-        &image[..n],
-        &mut base,
-        &mut log,
-        &mut current,
-        &mut last,
-        &mut rule,
-    ) {
-        Ok(()) => answer(
-            rt,
-            why,
-            save,
-            &mut base,
-            &mut log,
-            &mut current,
-            &mut last,
-            rule,
-        ),
+    match open_file(&image[..n], desk) {
+        Ok(()) => answer(rt, why, save, desk),
         Err(refusal) => Err(files::tell_refused(rt, from, refusal.number())),
     }
 }
@@ -246,8 +192,16 @@ fn serve(rt: &HostRuntime) -> Result<(), Told> {
     }
     let why = arguments.why;
     let save = arguments.save;
+    let mut desk = Desk::empty();
+    let mut lent = LentDesk {
+        base: &mut desk.base,
+        log: &mut desk.log,
+        current: &mut desk.current,
+        last: &mut desk.last,
+        rule: desk.rule,
+    };
     if let Some(from) = arguments.from {
-        return serve_image(rt, why, save, from);
+        return serve_image(rt, why, save, from, &mut lent);
     }
     serve_new(
         rt,
@@ -255,6 +209,7 @@ fn serve(rt: &HostRuntime) -> Result<(), Told> {
         save,
         arguments.last_number(),
         arguments.rule_number(),
+        &mut lent,
     )
 }
 

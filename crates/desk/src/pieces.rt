@@ -1,11 +1,10 @@
 // A piece of the input, behind the bytes that wait: what is to be written for it, what waits then, and whether to go on.
 ghost use Rattle.std.specs.Prelude.{◌≡◌, ◌+◌, ◌-◌, ◌*◌, ◌^◌, ◌<◌, ◌≤◌, length, take, drop};
-ghost use Rattle.history.specs.Desk.{shown};
+ghost use Rattle.history.specs.Lent.{lent, SameParts};
 ghost use Rattle.desk.specs.Turns.{stand, turn, TurnIs};
 
 use crate::answers::answer_all;
-use kept::Log;
-use records::{Cells, Rule};
+use history::LentDesk;
 
 // The ordinal of the next line, how many bytes wait, how many bytes the text has, and whether more is to be read.
 #[derive(Clone, Copy)]
@@ -28,11 +27,7 @@ fn keep(buf: &mut [u8], from: usize, to: usize) -> usize
 // The first `have` bytes of buf wait, and `got` bytes were read behind them; none were read where the input has ended.
 pub(crate) fn answer_piece(
     why: bool,
-    base: &mut Cells,
-    log: &mut Log,
-    current: &mut Cells,
-    last: &mut u32,
-    rule: Rule,
+    desk: &mut LentDesk,
     ordinal: u64,
     buf: &mut [u8],
     have: usize,
@@ -40,21 +35,11 @@ pub(crate) fn answer_piece(
     out: &mut [u8],
 ) -> Turn
     requires { (have + got ≤ length buf.old) × ((ordinal + (have + got) < 2 ^ 64) × (136 * (have + got) ≤ length out.old)) }
-    ensures { TurnIs (turn rule why (stand (shown base.old log.old current.old last.old) ordinal (take have buf.old)) (take got (drop have buf.old))) (shown base.new log.new current.new last.new) result buf.new out.new }
+    ensures parts { SameParts desk.old desk.new }
+    ensures done { TurnIs (turn desk.old.rule why (stand (lent desk.old) ordinal (take have buf.old)) (take got (drop have buf.old))) (lent desk.new) result buf.new out.new }
 {
     let end = have + got;
-    let done = answer_all(
-        why,
-        base,
-        log,
-        current,
-        last,
-        rule,
-        ordinal,
-        &buf[..end],
-        got == 0,
-        out,
-    );
+    let done = answer_all(why, desk, ordinal, &buf[..end], got == 0, out);
     let rest = keep(buf, done.used, end);
     Turn {
         ordinal: done.ordinal,

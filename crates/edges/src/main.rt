@@ -5,7 +5,7 @@
 
 ghost use Rattle.std.specs.Prelude.{◌<◌, ◌≤◌};
 
-use history::LentDesk;
+use history::{Desk, LentDesk};
 use std::io;
 use std::io::{Read, Write};
 
@@ -73,12 +73,7 @@ fn open_anew(word: &[u8], desk: &mut LentDesk) {
     let mut numbers = word.splitn(2, |byte| *byte == b'/');
     let last = decimal(numbers.next().unwrap_or_default());
     let rule = numbers.next().map_or(1, decimal);
-    let anew = history::open(low_word(last), low_word(rule)).desk;
-    *desk.base = anew.base;
-    *desk.log = anew.log;
-    *desk.current = anew.current;
-    *desk.last = anew.last;
-    desk.rule = anew.rule;
+    let _ = desk.open(low_word(last), low_word(rule));
 }
 
 // Runs the batch, and writes what it left.
@@ -113,7 +108,7 @@ fn case<W: Write>(out: &mut W, line: &[u8], desk: &mut LentDesk) -> io::Result<(
 }
 
 fn cases<W: Write>(out: &mut W, input: &[u8]) -> io::Result<()> {
-    let mut desk = history::open(0, 1).desk;
+    let mut desk = Desk::empty();
     let mut lent = LentDesk {
         base: &mut desk.base,
         log: &mut desk.log,
@@ -131,7 +126,7 @@ fn cases<W: Write>(out: &mut W, input: &[u8]) -> io::Result<()> {
 // The stop of a batch over these bytes, 0 to 13.
 fn stop_of(requests: &[u8]) -> u8 {
     let mut answers = [0u8; 5];
-    let ran = batch::run_desk(history::open(0, 1).desk, requests, &mut answers, 0);
+    let ran = batch::run_desk(Desk::empty(), requests, &mut answers, 0);
     batch::stop_number(ran.ran.stop)
 }
 

@@ -10,7 +10,13 @@ use Rattle.history.specs.Lent.{SameParts}
 use Rattle.history.specs.declared.LentDesk.{LentDesk}
 
 pub same_on : {d d' d'' : LentDesk} → SameParts d d' → SameParts d' d'' → SameParts d d''
-same_on p q = record { base = q.base ∙ p.base; log = q.log ∙ p.log; current = q.current ∙ p.current; last = q.last ∙ p.last; rule = q.rule ∙ p.rule }
+same_on p q =
+    let b = p.places in
+    let c = q.places in
+    record {
+      places = record { base = c.base ∙ b.base; log = c.log ∙ b.log; current = c.current ∙ b.current; last = c.last ∙ b.last };
+      rule = q.rule ∙ p.rule;
+    }
 
 pub by_same_rule : (s : Desk House Change) (q : Request) {d d' : LentDesk} {o : Outcome House Change} → SameParts d d'
     → o ≡ step (desk_rules d'.rule) s q → o ≡ step (desk_rules d.rule) s q

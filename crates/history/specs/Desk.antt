@@ -14,6 +14,7 @@ use Rattle.judge.specs.declared.Grant.TheVariants.{Pass, Keep, KeepNumbered, Tak
 use Rattle.reasons.specs.declared.Reason.{Reason}
 use Rattle.history.specs.Machine.{Verdict, refuse, pass, make, issue, undo, Rulebook, Desk, opened}
 use Rattle.history.specs.declared.Answer.{Answer}
+use Rattle.history.specs.declared.NoRule.{NoRule}
 
 abbrev pub verdict_of : Request → Result Grant Reason → Verdict Change
 verdict_of q (Err r) = refuse r.number
@@ -30,21 +31,28 @@ desk_rules rule = record { apply = applied; judge = λ h q. verdict_of q (ruling
 abbrev pub shown : List ℕ → List ℕ → List ℕ → ℕ → Desk House Change
 shown base log current last = record { base = view base; log = past log; current = view current; last = last }
 
--- ---- opening a desk: the answer, the desk that is then open, and its rule
+-- ---- opening a desk: the refusal and its number
+abbrev pub no_rule : NoRule
+no_rule = record {}
+
+abbrev pub no_rule_number : ℕ
+no_rule_number = 3
+
+-- the answer, the desk that is then open, and its rule
 pub record Opens : Type 0 where
-  pub answer : Answer
+  pub answer : Result (Unit {0}) NoRule
   pub desk : Desk House Change
   pub rule : Rule
 
-abbrev pub opens : Answer → Desk House Change → Rule → Opens
+abbrev pub opens : Result (Unit {0}) NoRule → Desk House Change → Rule → Opens
 opens answer d rule = record { answer = answer; desk = d; rule = rule }
 
 -- without records; 02, L3: "3 at opening for another rule number; it .. gives the empty desk with last number 0 and rule 1"
 abbrev pub opened_under : ℕ → ℕ → Opens
 opened_under last rule =
-    cond (eqb rule 1) (opens Answer.Granted (opened empty_house last) Rule.One)
-    (cond (eqb rule 2) (opens Answer.Granted (opened empty_house last) Rule.Two)
-    (opens (Answer.Refused 3) (opened empty_house 0) Rule.One))
+    cond (eqb rule 1) (opens (Ok tt) (opened empty_house last) Rule.One)
+    (cond (eqb rule 2) (opens (Ok tt) (opened empty_house last) Rule.Two)
+    (opens (Err no_rule) (opened empty_house 0) Rule.One))
 
 -- the base, where one more change is kept: of 32 the oldest goes into it
 abbrev pub settled : House → List Change → House

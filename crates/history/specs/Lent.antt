@@ -9,10 +9,14 @@ use Rattle.history.specs.declared.LentDesk.{LentDesk}
 abbrev pub lent : LentDesk → Desk House Change
 lent d = shown d.base.now d.log.now d.current.now d.last.now
 
--- the same parts are lent, under the same rule: so whoever lent them finds there what the desk shows
-pub record SameParts (d d' : LentDesk) : Type 0 where
+-- the same parts are lent: so whoever lent them finds there what the desk shows
+pub record SamePlaces (d d' : LentDesk) : Type 0 where
   pub base : d'.base.ghost_name ≡ d.base.ghost_name
   pub log : d'.log.ghost_name ≡ d.log.ghost_name
   pub current : d'.current.ghost_name ≡ d.current.ghost_name
   pub last : d'.last.ghost_name ≡ d.last.ghost_name
+
+-- and the desk stays under its rule
+pub record SameParts (d d' : LentDesk) : Type 0 where
+  pub places : SamePlaces d d'
   pub rule : d'.rule ≡ d.rule

@@ -6,8 +6,8 @@ ghost use Rattle.records.specs.House.{view, empty_house};
 ghost use Rattle.kept.specs.Log.{past};
 ghost use Rattle.history.specs.Machine.{opened, outcome, keep_change, take_back, issued, ruled, step};
 ghost use Rattle.effects.specs.Effects.{change_of};
-ghost use Rattle.history.specs.Lent.{lent, SameParts};
-ghost use Rattle.history.specs.Desk.{shown, desk_rules, opens, opened_under, verdict_of, settled, answer_byte};
+ghost use Rattle.history.specs.Lent.{lent, SamePlaces, SameParts};
+ghost use Rattle.history.specs.Desk.{shown, desk_rules, no_rule_number, opens, opened_under, verdict_of, settled, answer_byte};
 ghost use Rattle.counter.specs.Numbers.{next_after};
 
 use effects::Change;
@@ -27,6 +27,22 @@ pub struct Desk {
     pub rule: Rule,
 }
 
+impl Desk {
+    // Without records and kept changes, no number issued, under rule 1.
+    pub fn empty() -> Desk
+        ensures { (shown result.base result.log result.current result.last ≡ opened empty_house 0) × (result.rule ≡ Rule.One) }
+    {
+        Desk {
+            base: [0u32; 1858],
+            log: [0u8; 418],
+            current: [0u32; 1858],
+            last: 0,
+            rule: Rule::One,
+        }
+    }
+}
+
+// The three answers of a desk. Not a Result of an Option: that would name none of them; and `answer_byte` is said of any refusal number.
 #[derive(Clone, Copy)]
 pub enum Answer {
     Granted,
@@ -45,37 +61,16 @@ pub fn answer_byte(answer: Answer) -> u8
     }
 }
 
-// What an opening answers, granted or refused with 3, and the desk that is then open.
-#[derive(Drop)]
-pub struct Opened {
-    pub answer: Answer,
-    pub desk: Desk,
-}
+// No rule has the number that a desk was to be opened under.
+#[derive(Clone, Copy, PartialEq, Eq)]
+pub struct NoRule;
 
-fn empty_desk(answer: Answer, last: u32, rule: Rule) -> Opened
-    ensures { opens result.answer (shown result.desk.base result.desk.log result.desk.current result.desk.last) result.desk.rule ≡ opens answer (opened empty_house last) rule }
-{
-    let desk = Desk {
-        base: [0u32; 1858],
-        log: [0u8; 418],
-        current: [0u32; 1858],
-        last,
-        rule,
-    };
-    Opened { answer, desk }
-}
-
-// Without records, with the last draft number already used, under rule 1 or 2.
-pub fn open(last: u32, rule: u32) -> Opened
-    ensures { opens result.answer (shown result.desk.base result.desk.log result.desk.current result.desk.last) result.desk.rule ≡ opened_under last rule }
-{
-    if rule == 1 {
-        return empty_desk(Answer::Granted, last, Rule::One);
+impl NoRule {
+    pub fn number(self) -> u8
+        ensures { result ≡ no_rule_number }
+    {
+        3
     }
-    if rule == 2 {
-        return empty_desk(Answer::Granted, last, Rule::Two);
-    }
-    empty_desk(Answer::Refused(3), 0, Rule::One)
 }
 
 // Of a full log the oldest change goes into the base: it can't be taken back any more.
@@ -99,6 +94,32 @@ pub struct LentDesk<'a> {
 }
 
 impl<'a> LentDesk<'a> {
+    // Nothing is left of the desk that stood there.
+    fn clear(&mut self)
+        ensures { SamePlaces self.old self.new × (lent self.new ≡ opened empty_house 0) × (self.new.rule ≡ Rule.One) }
+    {
+        records::clear(self.base);
+        kept::clear(self.log);
+        records::clear(self.current);
+        *self.last = 0;
+        self.rule = Rule::One;
+    }
+
+    // The parts become a desk without records, with the last draft number already used, under rule 1 or 2.
+    pub fn open(&mut self, last: u32, rule: u32) -> Result<(), NoRule>
+        ensures places { SamePlaces self.old self.new }
+        ensures done { opens result (lent self.new) self.new.rule ≡ opened_under last rule }
+    {
+        self.clear();
+        self.rule = match rule {
+            1 => Rule::One,
+            2 => Rule::Two,
+            _ => return Err(NoRule),
+        };
+        *self.last = last;
+        Ok(())
+    }
+
     // The change is made and kept.
     fn make(&mut self, request: Request, number: u32)
         ensures parts { SameParts self.old self.new }

@@ -2,14 +2,14 @@
 use Rattle.std.specs.Prelude.{ℕ, ◌≡◌, cond, List, [], ◌∷◌, eqb, Result, Ok, Err}
 use Rattle.records.specs.declared.Rule.{Rule}
 use Rattle.reasons.specs.declared.Reason.{Reason}
-use Rattle.history.specs.Desk.{Opens}
+use Rattle.history.specs.Desk.{no_rule_number, Opens}
+use Rattle.history.specs.declared.NoRule.{NoRule}
 use Rattle.image.specs.Saving.{too_small_number}
 use Rattle.image.specs.declared.TooSmall.{TooSmall}
 use Rattle.opening.specs.Desks.{OpensDesk}
 use Rattle.opening.specs.Opening.{Opening, error_number}
 use Rattle.batch.specs.Batch.{State, stop_number, returned, Batched}
 use Rattle.batch.specs.declared.Stop.{Stop}
-use Rattle.why.specs.Explained.{refusal_of}
 
 -- the rule that a desk_t holds as a number: 2 is rule 2, and every other number, as of a zeroed desk_t, is rule 1
 abbrev pub held_rule : ℕ → Rule
@@ -29,8 +29,12 @@ abbrev pub left : ℕ → State → ℕ → Left
 left answer d rule = record { answer = answer; desk = d; rule = rule }
 
 -- "0, or 3"
+abbrev pub open_number : Result (Unit {0}) NoRule → ℕ
+open_number (Ok _) = 0
+open_number (Err e) = no_rule_number
+
 abbrev pub as_opened : Opens → Left
-as_opened o = left (refusal_of o.answer) o.desk (rule_number o.rule)
+as_opened o = left (open_number o.answer) o.desk (rule_number o.rule)
 
 -- "0, 14 or 15"
 abbrev pub load_number : Opening → ℕ

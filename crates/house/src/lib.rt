@@ -9,11 +9,10 @@ ghost use Rattle.editor.specs.Answers.{dominance_answer, join_answer, body_lengt
 ghost use Rattle.image.specs.Image.{image_of};
 ghost use Rattle.image.specs.Saving.{saved_answer, saved_buffer};
 ghost use Rattle.opening.specs.Desks.{desk_by};
-ghost use Rattle.why.specs.Explained.{refusal_of};
 ghost use Rattle.why.specs.Why.{reason_of_bytes};
 ghost use Rattle.house.specs.Calls.{held_rule, rule_number, left, as_opened, as_loaded, BatchCall, words, save_number, save_length};
 
-use history::{Answer, LentDesk};
+use history::LentDesk;
 use kept::Log;
 use records::{Cells, Rule};
 
@@ -36,16 +35,6 @@ fn rule_number(rule: Rule) -> u32
     }
 }
 
-fn refusal_of(answer: Answer) -> u32
-    ensures { result ≡ refusal_of answer }
-{
-    match answer {
-        Answer::Granted => 0,
-        Answer::Numbered(_) => 0,
-        Answer::Refused(n) => n as u32,
-    }
-}
-
 // Without records and kept changes.
 pub fn desk_open_parts(
     base: &mut Cells,
@@ -58,19 +47,19 @@ pub fn desk_open_parts(
 ) -> u32
     ensures { left result (shown base.new log.new current.new last.new) rule.new ≡ as_opened (opened_under start under) }
 {
-    let opened = history::open(start, under);
-    let desk = opened.desk;
-    let before = desk.base;
-    let changes = desk.log;
-    let records = desk.current;
-    *base = before;
-    *log = changes;
-    *current = records;
-    *last = desk.last;
-    let held = desk.rule;
-    *rule = rule_number(held);
-    let answer = opened.answer;
-    refusal_of(answer)
+    let mut desk = LentDesk {
+        base,
+        log,
+        current,
+        last,
+        rule: Rule::One,
+    };
+    let answer = desk.open(start, under);
+    *rule = rule_number(desk.rule);
+    match answer {
+        Ok(()) => 0,
+        Err(refusal) => u32::from(refusal.number()),
+    }
 }
 
 pub fn desk_batch_parts(
@@ -97,8 +86,7 @@ pub fn desk_batch_parts(
     let ran = batch::run(&mut desk, requests, answers, place);
     *used = ran.used;
     *written = ran.written;
-    let stop = ran.stop;
-    batch::stop_number(stop) as u32
+    u32::from(batch::stop_number(ran.stop))
 }
 
 pub fn desk_why_parts(
@@ -150,9 +138,15 @@ pub fn desk_load_parts(
 ) -> u32
     ensures { left result (shown base.new log.new current.new last.new) rule.new ≡ as_loaded (desk_by image.now) }
 {
-    let mut under = Rule::One;
-    let answer = opening::open_desk(image, base, log, current, last, &mut under);
-    *rule = rule_number(under);
+    let mut desk = LentDesk {
+        base,
+        log,
+        current,
+        last,
+        rule: Rule::One,
+    };
+    let answer = opening::open_desk(image, &mut desk);
+    *rule = rule_number(desk.rule);
     match answer {
         Ok(()) => 0,
         Err(refusal) => u32::from(refusal.number()),

@@ -5,11 +5,11 @@ ghost use Rattle.std.specs.Prelude.{◌≡◌};
 ghost use Rattle.records.specs.House.{view};
 ghost use Rattle.reader.specs.Reading.{saved};
 ghost use Rattle.image.specs.Image.{image_of};
-ghost use Rattle.history.specs.Desk.{shown};
+ghost use Rattle.history.specs.Lent.{lent, SamePlaces};
 ghost use Rattle.opening.specs.Opening.{error_number, of_frame, opens, settled, same_bytes, opened_by};
 ghost use Rattle.opening.specs.Desks.{opens_desk, desk_by};
 
-use kept::Log;
+use history::LentDesk;
 use records::{Cells, Rule};
 use request::FrameError;
 
@@ -91,20 +91,13 @@ pub fn open(
     answer
 }
 
-// A desk with the records, the last number and the rule that the image holds. No change is kept: what was done before can't be taken back.
-pub fn open_desk(
-    image: &[u8],
-    base: &mut Cells,
-    log: &mut Log,
-    current: &mut Cells,
-    last: &mut u32,
-    rule: &mut Rule,
-) -> Result<(), OpenError>
-    ensures { opens_desk result (shown base.new log.new current.new last.new) rule.new ≡ desk_by image.now }
+// The parts become a desk with the records, the last number and the rule that the image holds. No change is kept: what was done before can't be taken back.
+pub fn open_desk(image: &[u8], desk: &mut LentDesk) -> Result<(), OpenError>
+    ensures places { SamePlaces desk.old desk.new }
+    ensures done { opens_desk result (lent desk.new) desk.new.rule ≡ desk_by image.now }
 {
-    let answer = open(image, current, last, rule);
-    let records = *current;
-    *base = records;
-    kept::clear(log);
+    let answer = open(image, desk.current, desk.last, &mut desk.rule);
+    *desk.base = *desk.current;
+    kept::clear(desk.log);
     answer
 }

@@ -6,7 +6,7 @@ use mathlib.Core.Path.{◌≡◌, sym, ap, ◌∙◌}
 use mathlib.Core.List.{List}
 use lib.ListN.{length}
 use Rattle.request.specs.declared.Request.{Request}
-use Rattle.records.specs.House.{House, view}
+use Rattle.records.specs.House.{House, view, empty_house}
 use Rattle.records.specs.declared.Rule.{Rule}
 use Rattle.effects.specs.declared.Change.{Change}
 use Rattle.reader.specs.Reading.{Saved, blank, Walk, Taken, stopped, walked}
@@ -17,12 +17,12 @@ use Rattle.counter.specs.declared.Counter.{Counter}
 use Rattle.kept.specs.Log.{past}
 use Rattle.reasons.specs.declared.Reason.{Reason}
 use Rattle.judge.specs.declared.Grant.{Grant}
-use Rattle.history.specs.Machine.{Outcome, outcome, ruled, step}
+use Rattle.history.specs.Machine.{Outcome, outcome, opened, ruled, step}
 use Rattle.history.specs.Desk as history
 use Rattle.history.specs.Desk.{verdict_of, desk_rules, shown, opened_under}
 use Rattle.history.specs.declared.Answer.{Answer}
 use Rattle.history.specs.declared.Desk.{Desk}
-use Rattle.history.specs.declared.Opened.{Opened}
+use Rattle.history.specs.declared.NoRule.{NoRule}
 use Rattle.batch.specs.Batch.{State, stop_number, Batched}
 use Rattle.batch.specs.declared.Ran.{Ran}
 use Rattle.batch.specs.declared.RanDesk.{RanDesk}
@@ -71,11 +71,15 @@ pub one_desk : (image : List ℕ) (d₁ d₂ : State) (r s : Opening) (rule₁ r
 one_desk image d₁ d₂ r s rule₁ rule₂ p q =
     (ap (λ (o : OpensDesk). o.answer) (determined p q), ap (λ (o : OpensDesk). o.desk) (determined p q), ap (λ (o : OpensDesk). o.rule) (determined p q))
 
+-- two results of history::empty: one_empty
+pub one_empty : (r s : Desk) → (shown_of r ≡ opened empty_house 0) × (r.rule ≡ Rule.One) → (shown_of s ≡ opened empty_house 0) × (s.rule ≡ Rule.One)
+    → (shown_of r ≡ shown_of s) × (r.rule ≡ s.rule)
+one_empty r s p q = (determined p.0 q.0, determined p.1 q.1)
+
 -- two results of history::open: one_opened
-pub one_opened : (last rule : ℕ) (r s : Opened) → history.opens r.answer (shown_of r.desk) r.desk.rule ≡ opened_under last rule
-    → history.opens s.answer (shown_of s.desk) s.desk.rule ≡ opened_under last rule
-    → (r.answer ≡ s.answer) × (shown_of r.desk ≡ shown_of s.desk) × (r.desk.rule ≡ s.desk.rule)
-one_opened last rule r s p q =
+pub one_opened : (last rule : ℕ) (d₁ d₂ : State) (r s : Result (Unit {0}) NoRule) (rule₁ rule₂ : Rule)
+    → history.opens r d₁ rule₁ ≡ opened_under last rule → history.opens s d₂ rule₂ ≡ opened_under last rule → (r ≡ s) × (d₁ ≡ d₂) × (rule₁ ≡ rule₂)
+one_opened last rule d₁ d₂ r s rule₁ rule₂ p q =
     (ap (λ (o : history.Opens). o.answer) (determined p q), ap (λ (o : history.Opens). o.desk) (determined p q), ap (λ (o : history.Opens). o.rule) (determined p q))
 
 -- d₁ and d₂ are what `shown` shows of the parts at exit

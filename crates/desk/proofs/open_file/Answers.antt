@@ -3,10 +3,10 @@ use borrow.Author.Tests.{lt-ltb, le-ltb}
 use Rattle.desk.specs.Opened.{file_by}
 use Rattle.desk.proofs.open_file.Goals as goal
 
-pub returns-then-bytes-gt65536 : goal.returns-then-bytes-gt65536
+pub returns-then-bytes-gt65536-clause-done : goal.returns-then-bytes-gt65536-clause-done
 unfolding file_by
-returns-then-bytes-gt65536 c = rw (lt-ltb 65536 _ c.if-bytes-gt65536.true)
+returns-then-bytes-gt65536-clause-done c = rw (lt-ltb 65536 _ c.if-bytes-gt65536.true)
 
-pub returns : goal.returns
+pub returns-clause-done : goal.returns-clause-done
 unfolding file_by
-returns c = rw (le-ltb 65536 _ c.if-bytes-gt65536.false) c.open_desk.ensures
+returns-clause-done c = rw (le-ltb 65536 _ c.if-bytes-gt65536.false) c.open_desk.ensures.done

@@ -1,7 +1,8 @@
 -- What was read stands behind the bytes that wait, so that the turn is one more piece.
 use Rattle.std.proofs.Common.{◌≡◌, ◌∙◌, ◌+◌, ◌≤◌, arith, length}
 use borrow.Author.Tests.{not-false}
-use Rattle.history.specs.Desk.{shown}
+use Rattle.history.specs.Lent.{lent, SameParts}
+use Rattle.history.proofs.Lent.{same_on}
 use Rattle.desk.specs.Turns.{LedTo}
 use Rattle.desk.proofs.Loop.{filled, filled_length, filled_same, again, led_on}
 use Rattle.desk.proofs.Steps.{part_length}
@@ -9,7 +10,9 @@ use Rattle.desk.proofs.run.Goals as goal
 use Rattle.desk.proofs.run.Goals.{After-answer_piece-turn}
 
 inside : (c : After-answer_piece-turn) → c.loop-turns.have ≤ length c.loop-turns.buf
-inside c = omega (arith, c.loop-turns.invariant.few, c.loop-turns.invariant.buf_length)
+inside c =
+    let h = c.loop-turns.invariant.1 in
+    omega (arith, h.few, h.buf_length)
 
 size : (c : After-answer_piece-turn) → length (filled c.loop-turns.buf c.loop-turns.have c.read_piece.new.buf) ≡ length c.loop-turns.buf
 size c = filled_length c.loop-turns.buf c.loop-turns.have c.read_piece.new.buf (inside c) c.read_piece.auto.buf
@@ -17,22 +20,34 @@ size c = filled_length c.loop-turns.buf c.loop-turns.have c.read_piece.new.buf (
 room : (c : After-answer_piece-turn) → c.loop-turns.have + c.in_ok-got.got ≤ length (filled c.loop-turns.buf c.loop-turns.have c.read_piece.new.buf)
 room c = omega (arith, size c, inside c, c.in_ok-got.ensures.0, c.read_piece.auto.buf, part_length c.loop-turns.have c.loop-turns.buf)
 
-led : (c : After-answer_piece-turn) → LedTo c.args.rule c.args.why (shown c.args.base.now c.args.log.now c.args.current.now c.args.last.now) (shown c.answer_piece-turn.new.base c.answer_piece-turn.new.log c.answer_piece-turn.new.current c.answer_piece-turn.new.last)
+parts : (c : After-answer_piece-turn) → SameParts c.args.desk.now c.answer_piece-turn.new.desk
+parts c = same_on c.loop-turns.invariant.0 c.answer_piece-turn.ensures.parts
+
+led : (c : After-answer_piece-turn) → LedTo c.args.desk.now.rule c.args.why (lent c.args.desk.now) (lent c.answer_piece-turn.new.desk)
 led c =
     let l = c.loop-turns in
+    let h = l.invariant.1 in
     let a = c.answer_piece-turn in
-    led_on l.invariant (filled l.buf l.have c.read_piece.new.buf) (filled_same l.buf l.have c.read_piece.new.buf (inside c)) c.in_ok-got.got (room c) (size c ∙ l.invariant.buf_length) a.result a.new.buf a.new.out a.ensures
+    led_on h (filled l.buf l.have c.read_piece.new.buf) (filled_same l.buf l.have c.read_piece.new.buf (inside c)) c.in_ok-got.got (room c) (size c ∙ h.buf_length) a.result a.new.buf a.new.out
+    (rw l.invariant.0.rule at a.ensures.done)
 
 pub returns-in_err-print_text : goal.returns-in_err-print_text
-returns-in_err-print_text c = led (goal.at.returns-in_err-print_text c).After-answer_piece-turn
+returns-in_err-print_text c =
+    let x = (goal.at.returns-in_err-print_text c).After-answer_piece-turn in
+    record { parts = parts x; led = led x }
 
 pub returns-then-not-turn : goal.returns-then-not-turn
-returns-then-not-turn c = led (goal.at.returns-then-not-turn c).After-answer_piece-turn
+returns-then-not-turn c =
+    let x = (goal.at.returns-then-not-turn c).After-answer_piece-turn in
+    record { parts = parts x; led = led x }
 
 pub loop-turns-preserved : goal.loop-turns-preserved
 loop-turns-preserved c =
     let l = c.loop-turns in
+    let h = l.invariant.1 in
     let a = c.answer_piece-turn in
-    let x = (goal.at.loop-turns-preserved c).After-answer_piece-turn in
-    again l.invariant (filled l.buf l.have c.read_piece.new.buf) (filled_same l.buf l.have c.read_piece.new.buf (inside x)) c.in_ok-got.got (room x) (size x ∙ l.invariant.buf_length) a.result a.new.buf a.new.out a.ensures
-    (a.auto.buf ∙ size x ∙ l.invariant.buf_length) (a.auto.out ∙ l.invariant.out_length) (not-false _ c.if-not-turn.false)
+    let x = (goal.at.loop-turns-preserved c).After-answer_piece-turn in (
+      parts x,
+      again h (filled l.buf l.have c.read_piece.new.buf) (filled_same l.buf l.have c.read_piece.new.buf (inside x)) c.in_ok-got.got (room x) (size x ∙ h.buf_length) a.result a.new.buf a.new.out
+          (rw l.invariant.0.rule at a.ensures.done) (a.auto.buf ∙ size x ∙ h.buf_length) (a.auto.out ∙ h.out_length) (not-false _ c.if-not-turn.false),
+    )

@@ -1,9 +1,8 @@
 -- `run` meets its contract: between two turns it stands where the pieces read lead, and has room for the next.
-use Rattle.history.specs.Desk.{shown}
+use Rattle.history.specs.Lent.{lent, SameParts}
 use Rattle.desk.proofs.Loop.{Between}
 use Rattle.desk.proofs.run.Given as goal
 
 abbrev pub invariant-loop-turns : goal.invariant-loop-turns
 invariant-loop-turns l =
-    Between l.rule l.why (shown l.initial.base l.initial.log l.initial.current l.initial.last)
-    (shown l.base l.log l.current l.last) l.ordinal l.have l.turns l.buf l.out
+    SameParts l.initial.desk l.desk × Between l.initial.desk.rule l.why (lent l.initial.desk) (lent l.desk) l.ordinal l.have l.turns l.buf l.out

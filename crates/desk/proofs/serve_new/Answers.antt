@@ -3,4 +3,4 @@ use Rattle.desk.specs.Opened.{with_number}
 use Rattle.desk.proofs.serve_new.Goals as goal
 
 pub answer-requires : goal.answer-requires
-answer-requires c = with_number c.args.number c.args.rule_number (rw c.in-Granted.is at c.open-opened.ensures)
+answer-requires c = with_number c.args.last c.args.rule (rw c.in-Ok.is at c.open.ensures.done)

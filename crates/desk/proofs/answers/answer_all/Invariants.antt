@@ -2,13 +2,14 @@
 use Prim.Native.Nat.{◌-◌}
 use mathlib.Core.Path.{◌≡◌}
 use lib.ListN.{length}
-use Rattle.history.specs.Desk.{shown}
+use Rattle.history.specs.Lent.{lent, SameParts}
 use Rattle.desk.proofs.Steps.{SoFar}
 use Rattle.desk.proofs.answers.answer_all.Given as goal
 
 abbrev pub invariant-loop-used : goal.invariant-loop-used
 invariant-loop-used l =
-    (length l.out ≡ length l.initial.out) × SoFar l.rule l.why l.ended (shown l.initial.base l.initial.log l.initial.current l.initial.last) l.first l.requests (shown l.base l.log l.current l.last) l.ordinal l.used l.text l.out
+    SameParts l.initial.desk l.desk × (length l.out ≡ length l.initial.out)
+    × SoFar l.initial.desk.rule l.why l.ended (lent l.initial.desk) l.first l.requests (lent l.desk) l.ordinal l.used l.text l.out
 
 abbrev pub decreases-loop-used : goal.decreases-loop-used
 decreases-loop-used l =
