@@ -1,6 +1,5 @@
 -- How long the texts of a line are, and texts put into a buffer.
-use Rattle.std.proofs.Common.{◌≡◌, refl, sym, ap, subst, ◌∙◌, Bool, true, false, cond, List, [], ◌++◌, ℕ, ◌+◌, ◌-◌, ◌≤◌, arith, length, take, drop, length-append, append_assoc, append-nil}
-use lib.Seq.{take_at, take-length, length-take-le}
+use Rattle.std.proofs.Common.{◌≡◌, refl, sym, subst, Bool, true, false, cond, List, [], ℕ, ◌≤◌, arith, length, take, length-append, append-nil}
 use Rattle.history.specs.declared.Answer.{Answer}
 use Rattle.history.specs.declared.Answer.TheVariants.{Granted, Numbered, Refused}
 use Rattle.reasons.specs.Reasons.{zeros}
@@ -36,30 +35,9 @@ unfolding line_of
 if_asked true k kind a r = refl
 if_asked false k kind a r = refl
 
--- ---- texts one after the other
-pub then : {O O₁ O₂ s t : List ℕ} {at a b : ℕ} → Put O at s a O₁ → Put O₁ a t b O₂ → Put O at (s ++ t) b O₂
-then {O = O} {s = s} {t = t} {at = at} p q =
-    record {
-      ends = let e = q.ends in let f = p.ends in simp length-append (omega arith);
-      is = q.is ∙ ap (λ (x : List ℕ). x ++ t) p.is ∙ append_assoc (take at O) s t;
-    }
-
+-- ---- texts that are put
 pub put_nothing : (O : List ℕ) (at : ℕ) → Put O at [] at O
 put_nothing O at = record { ends = omega arith; is = sym (append-nil (take at O)) }
 
 pub put_as : {O O' s t : List ℕ} {at b : ℕ} → s ≡ t → Put O at s b O' → Put O at t b O'
 put_as {O = O} {O' = O'} {at = at} {b = b} e p = subst (λ (x : List ℕ). Put O at x b O') e p
-
--- what a copy of S leaves of O when it is lent the part behind `at`: ys, with S at its front
-pub appended : (O S ys : List ℕ) (at r : ℕ) → at + length S ≤ length O → r ≡ length S
-    → ys ≡ take (length S) S ++ drop (length S) (take (length O - at) (drop at O))
-    → Put O at S (at + r) (take at O ++ (ys ++ drop (length O - at) (drop at O)))
-appended O S ys at r fits is-r is-ys =
-    let D : List ℕ = drop (length S) (take (length O - at) (drop at O)) in
-    let E : List ℕ = drop (length O - at) (drop at O) in
-    let split : take at O ++ (ys ++ E) ≡ (take at O ++ S) ++ (D ++ E) = simp (is-ys, take-length, append_assoc) in
-    let len : length (take at O ++ S) ≡ at + r = simp (length-append, length-take-le at O (omega arith), is-r) in
-    record {
-      ends = ap (λ (k : ℕ). at + k) is-r;
-      is = ap (take (at + r)) split ∙ take_at (take at O ++ S) (D ++ E) (at + r) len;
-    }

@@ -1,12 +1,13 @@
 -- The line that is printed for an answer. 01: "ordinal (decimal), kind and answer byte (two hex digits), draft number (decimal) or a dash, one space between".
 -- Where the reasons are asked for: "The line of 01, then five parts more: the refusal's number (decimal, 0 for a grant), the record's kind (two hex digits), its id
 -- or number, the first value, the second value (decimal), one space between."
-use Rattle.std.specs.Prelude.{ℕ, ◌+◌, ◌/◌, ◌%◌, ◌≡◌, Bool, false, cond, List, [], ◌∷◌, ◌++◌, ltb, length, take}
+use Rattle.std.specs.Prelude.{ℕ, ◌+◌, ◌/◌, ◌%◌, ◌≡◌, ◌≤◌, Bool, false, cond, List, [], ◌∷◌, ◌++◌, ltb, length, take}
 use Rattle.std.specs.Fmt.{digits_onto}
 use Rattle.history.specs.Desk.{answer_byte}
 use Rattle.history.specs.declared.Answer.{Answer}
 use Rattle.history.specs.declared.Answer.TheVariants.{Granted, Numbered, Refused}
 use Rattle.reasons.specs.declared.Reason.{Reason}
+use Rattle.desk.specs.declared.lines.Text.{Text}
 
 -- a number of 64 bits in decimal: at most 20 digits, no zero in front
 unfoldable pub decimal : ℕ → List ℕ
@@ -57,3 +58,10 @@ rule_refused_text rule n = (100 ∷ 101 ∷ 115 ∷ 107 ∷ 58 ∷ 32 ∷ 45 ∷
 pub record Put (before : List ℕ) (at : ℕ) (text : List ℕ) (next : ℕ) (after : List ℕ) : Type 0 where
   pub ends : next ≡ at + length text
   pub is : take next after ≡ take at before ++ text
+
+-- the same of a text in a lent buffer, which is still that buffer
+pub record Appends (before : Text) (text : List ℕ) (after : Text) : Type 0 where
+  pub put : Put before.out.now before.end text after.end after.out.now
+  pub inside : after.end ≤ length after.out.now
+  pub room : length after.out.now ≡ length before.out.now
+  pub same_reference : after.out.ghost_name ≡ before.out.ghost_name

@@ -38,7 +38,7 @@ fn so_far(ordinal: u64, used: usize, text: usize, onward: bool) -> Progress
 fn body_length(kind: u8) -> usize
     ensures { (result ≡ body_length kind) × (result < 2 ^ 32) }
 {
-    request::body_length(kind as u32) as usize
+    request::body_length(u32::from(kind)) as usize
 }
 
 // The reason that is printed for a request, by its ruling: asked for before the request is made, and not at all where none is printed.

@@ -6,7 +6,7 @@
 ghost use Rattle.std.specs.Prelude.{◌≡◌, ◌≤◌, length, IfOk};
 ghost use Rattle.desk.specs.Files.{Within};
 
-use crate::lines::{append, refused};
+use crate::lines::Text;
 use crate::names::{folder_length, put_beside, put_letters};
 use crate::told::{NO_TEXT, TAKEN, Told, failed, tell, word_failed};
 use std::env::Env;
@@ -47,6 +47,7 @@ fn read_some(
 }
 
 // The bytes of a file up to its end, or as many as there is room for.
+// A loop, since `read_to_end` wants a Vec and `read_exact` fails on a shorter file.
 fn read_all(
     rt: &HostRuntime,
     file: &mut File,
@@ -92,10 +93,15 @@ pub(crate) fn tell_refused(rt: &HostRuntime, word: usize, number: u8) -> Told {
     let Ok(end) = put_name(rt, word, &mut text) else {
         return Told;
     };
-    let mut line = [0; LINE];
-    let at = append(&mut line, 0, &text[..end]);
-    let n = refused(number, &mut line, at);
-    tell(rt, &line[..n])
+    let mut room = [0; LINE];
+    let mut line = Text {
+        out: &mut room,
+        end: 0,
+    };
+    line.append(&text[..end]);
+    line.refused(number);
+    let n = line.end;
+    tell(rt, &room[..n])
 }
 
 // A new file of that name, which only its owner may open.

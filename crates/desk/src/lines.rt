@@ -1,7 +1,7 @@
 // The text of a line: the ordinal, the kind, the answer byte, the draft number or a dash, and where it is asked for the reason.
-ghost use Rattle.std.specs.Prelude.{◌≡◌, cond, [], ◌+◌, ◌<◌, ◌≤◌, length};
+ghost use Rattle.std.specs.Prelude.{◌≡◌, [], ◌+◌, ◌<◌, ◌≤◌, length};
 ghost use Rattle.desk.specs.Counts.{IsPrefixLen};
-ghost use Rattle.desk.specs.Lines.{hex_digit, hex, middle_of, decimal, number_text, number_part, kind_part, reason_text, line_of, refused_text, rule_refused_text, Put};
+ghost use Rattle.desk.specs.Lines.{hex_digit, hex, middle_of, decimal, number_text, number_part, kind_part, reason_text, line_of, refused_text, rule_refused_text, Put, Appends};
 
 use history::Answer;
 use itoa::Buffer;
@@ -37,60 +37,77 @@ fn kind_part(kind: u8) -> [u8; 3]
     [b' ', a, b]
 }
 
-// A text goes behind the first `at` bytes of out; the answer is where it ends.
-pub(crate) fn append(out: &mut [u8], at: usize, text: &[u8]) -> usize
-    requires { at + length text.now ≤ length out.old }
-    ensures { Put out.old at text.now result out.new }
-{
-    let end = at + text.len();
-    out[at..end].copy_from_slice(text);
-    end
+// A text in a lent buffer: its first `end` bytes. What is put there goes behind them.
+#[derive(Drop)]
+pub(crate) struct Text<'a> {
+    pub out: &'a mut [u8],
+    pub end: usize,
 }
 
-#[tactic(auto, using(crate::proofs::Decimal::decimal_is))]
-fn put_decimal(n: u64, out: &mut [u8], at: usize) -> usize
-    requires { at + 20 ≤ length out.old }
-    ensures put { Put out.old at (decimal n) result out.new }
-    ensures short { result ≤ at + 20 }
-{
-    append(out, at, Buffer::new().format(n).as_bytes())
-}
+impl Text<'_> {
+    pub(crate) fn append(&mut self, text: &[u8])
+        requires { self.old.end + length text.now ≤ length self.old.out.now }
+        ensures { Appends self.old text.now self.new }
+    {
+        let end = self.end + text.len();
+        self.out[self.end..end].copy_from_slice(text);
+        self.end = end;
+    }
 
-fn put_number(answer: Answer, out: &mut [u8], at: usize) -> usize
-    requires { at + 20 ≤ length out.old }
-    ensures put { Put out.old at (number_text answer) result out.new }
-    ensures short { result ≤ at + 20 }
-{
-    match answer {
-        Answer::Numbered(number) => put_decimal(u64::from(number), out, at),
-        Answer::Granted | Answer::Refused(_) => append(out, at, b"-"),
+    #[tactic(auto, using(crate::proofs::Decimal::decimal_is))]
+    fn decimal(&mut self, n: u64)
+        requires { self.old.end + 20 ≤ length self.old.out.now }
+        ensures appends { Appends self.old (decimal n) self.new }
+        ensures short { self.new.end ≤ self.old.end + 20 }
+    {
+        self.append(Buffer::new().format(n).as_bytes());
+    }
+
+    fn number(&mut self, answer: Answer)
+        requires { self.old.end + 20 ≤ length self.old.out.now }
+        ensures appends { Appends self.old (number_text answer) self.new }
+        ensures short { self.new.end ≤ self.old.end + 20 }
+    {
+        match answer {
+            Answer::Numbered(number) => self.decimal(u64::from(number)),
+            Answer::Granted | Answer::Refused(_) => self.append(b"-"),
+        }
+    }
+
+    fn part(&mut self, n: u32)
+        requires { self.old.end + 21 ≤ length self.old.out.now }
+        ensures appends { Appends self.old (number_part n) self.new }
+        ensures short { self.new.end ≤ self.old.end + 21 }
+    {
+        self.append(b" ");
+        self.decimal(u64::from(n));
+    }
+
+    fn reason(&mut self, reason: Reason)
+        requires { self.old.end + 87 ≤ length self.old.out.now }
+        ensures appends { Appends self.old (reason_text reason) self.new }
+        ensures short { self.new.end ≤ self.old.end + 87 }
+    {
+        self.part(u32::from(reason.number));
+        self.append(&kind_part(reason.kind));
+        self.part(reason.id);
+        self.part(reason.held);
+        self.part(reason.wanted);
+    }
+
+    // As in `: refused 14`, behind the name of a file that is no image.
+    pub(crate) fn refused(&mut self, number: u8)
+        requires { self.old.end + 31 ≤ length self.old.out.now }
+        ensures { Appends self.old (refused_text number) self.new }
+    {
+        self.append(b": refused ");
+        self.decimal(u64::from(number));
+        self.append(b"\n");
     }
 }
 
-fn put_part(n: u32, out: &mut [u8], at: usize) -> usize
-    requires { at + 21 ≤ length out.old }
-    ensures put { Put out.old at (number_part n) result out.new }
-    ensures short { result ≤ at + 21 }
-{
-    let a = append(out, at, b" ");
-    put_decimal(u64::from(n), out, a)
-}
-
-fn put_reason(why: bool, reason: Reason, out: &mut [u8], at: usize) -> usize
-    requires { at + 87 ≤ length out.old }
-    ensures put { Put out.old at (cond why (reason_text reason) []) result out.new }
-    ensures short { result ≤ at + 87 }
-{
-    if !why {
-        return at;
-    }
-    let a = put_part(u32::from(reason.number), out, at);
-    let b = append(out, a, &kind_part(reason.kind));
-    let c = put_part(reason.id, out, b);
-    let d = put_part(reason.held, out, c);
-    put_part(reason.wanted, out, d)
-}
-
+// A line goes behind the first `at` bytes of out; the answer is where it ends.
+#[tactic(auto, unfolding(crate::specs::Lines::line_of))]
 pub(crate) fn line(
     why: bool,
     ordinal: u64,
@@ -103,23 +120,15 @@ pub(crate) fn line(
     requires { at + 136 ≤ length out.old }
     ensures { Put out.old at (line_of why ordinal kind answer reason) result out.new }
 {
-    let a = put_decimal(ordinal, out, at);
-    let byte = history::answer_byte(answer);
-    let b = append(out, a, &middle(kind, byte));
-    let c = put_number(answer, out, b);
-    let d = put_reason(why, reason, out, c);
-    append(out, d, b"\n")
-}
-
-// As in `: refused 14`, behind the name of a file that is no image.
-pub(crate) fn refused(number: u8, out: &mut [u8], at: usize) -> usize
-    requires { at + 31 ≤ length out.old }
-    ensures put { Put out.old at (refused_text number) result out.new }
-    ensures prefix_len { IsPrefixLen result out.new }
-{
-    let a = append(out, at, b": refused ");
-    let b = put_decimal(u64::from(number), out, a);
-    append(out, b, b"\n")
+    let mut text = Text { out, end: at };
+    text.decimal(ordinal);
+    text.append(&middle(kind, history::answer_byte(answer)));
+    text.number(answer);
+    if why {
+        text.reason(reason);
+    }
+    text.append(b"\n");
+    text.end
 }
 
 // As in `desk: --rule 7: refused 3`.
@@ -128,7 +137,9 @@ pub(crate) fn rule_refused(rule: u32, number: u8, out: &mut [u8]) -> usize
     ensures put { Put out.old 0 (rule_refused_text rule number) result out.new }
     ensures prefix_len { IsPrefixLen result out.new }
 {
-    let a = append(out, 0, b"desk: --rule ");
-    let b = put_decimal(u64::from(rule), out, a);
-    refused(number, out, b)
+    let mut text = Text { out, end: 0 };
+    text.append(b"desk: --rule ");
+    text.decimal(u64::from(rule));
+    text.refused(number);
+    text.end
 }

@@ -61,7 +61,7 @@ fn run(
 {
     let mut ordinal = 1;
     let mut have = 0;
-    for turns in 0..1125899906842624u64 {
+    for _turn in 0..1125899906842624u64 {
         let got = read_piece(rt, &mut buf[have..])?;
         let turn = pieces::answer_piece(why, desk, ordinal, buf, have, got, out);
         print_text(rt, &out[..turn.text])?;

@@ -4,7 +4,7 @@ ghost use Rattle.desk.specs.Counts.{IsPrefixLen};
 ghost use Rattle.desk.specs.Lines.{Put};
 ghost use Rattle.desk.specs.Names.{folder_length, beside_name};
 
-use crate::lines::append;
+use crate::lines::Text;
 
 // How many bytes of a name are its folder, with the `/` behind it; 0 where it names none.
 #[tactic(auto, using(crate::proofs::Folders::none_left))]
@@ -24,8 +24,10 @@ pub(crate) fn put_beside(name: &[u8], out: &mut [u8]) -> usize
     ensures put { Put out.old 0 (beside_name name.now) result out.new }
     ensures prefix_len { IsPrefixLen result out.new }
 {
-    let a = append(out, 0, name);
-    append(out, a, b".XXXXXX")
+    let mut text = Text { out, end: 0 };
+    text.append(name);
+    text.append(b".XXXXXX");
+    text.end
 }
 
 // A digit or a letter.

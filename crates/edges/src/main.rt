@@ -37,6 +37,10 @@ fn decimal(word: &[u8]) -> u64 {
     word.iter().fold(0, |n, digit| with_digit(n, *digit))
 }
 
+fn low_word(n: u64) -> u32 {
+    (n % 4_294_967_296) as u32
+}
+
 fn value(digit: u8) -> u8
     ensures { result < 16 }
 {
@@ -70,10 +74,6 @@ fn open_anew(word: &[u8], desk: &mut LentDesk) {
     let last = decimal(numbers.next().unwrap_or_default());
     let rule = numbers.next().map_or(1, decimal);
     let _ = desk.open(low_word(last), low_word(rule));
-}
-
-fn low_word(n: u64) -> u32 {
-    (n % 4_294_967_296) as u32
 }
 
 // Runs the batch, and writes what it left.

@@ -21,57 +21,51 @@ pub struct Change {
 }
 
 // The request and its number come apart: put together, a request would be copied for each change that is made again.
+#[tactic(auto, unfolding(crate::specs::Effects::applied))]
 pub fn apply(records: &mut Cells, request: Request, number: u32)
     ensures { view records.new ≡ applied (view records.old) (change_of request number) }
 {
     match request {
         Request::Enrol {
-            u: _,
             new,
             sort,
             level,
             categories,
             admin,
+            ..
         } => enrol(records, new, sort, level, categories, admin),
         Request::Establish { u, room } => establish(records, u, room),
-        Request::JoinStaff { u: _, w, room } => join(records, w, room),
-        Request::LeaveStaff { u: _, w, room } => leave(records, w, room),
+        Request::JoinStaff { w, room, .. } => join(records, w, room),
+        Request::LeaveStaff { w, room, .. } => leave(records, w, room),
         Request::JoinOutsider {
-            u: _,
             w,
             room,
             level,
             categories,
+            ..
         } => join_outsider(records, w, room, level, categories),
-        Request::LeaveOutsider { u: _, w, room } => leave(records, w, room),
+        Request::LeaveOutsider { w, room, .. } => leave(records, w, room),
         Request::Add {
-            u: _,
             script,
             number: v,
             room,
+            ..
         } => add_place(records, script, v, room),
         Request::Remove {
-            u: _,
             script,
             number: v,
             room,
+            ..
         } => remove_place(records, script, v, room),
-        Request::Import {
-            u: _,
-            script1: _,
-            number: _,
-            script2,
-            room: _,
-        } => new_draft(records, number, script2, 0),
+        Request::Import { script2, .. } => new_draft(records, number, script2, 0),
         Request::Merge {
-            u: _,
             script,
             number: v,
-            room: _,
+            ..
         } => add_place(records, script, v, 0),
-        Request::Disband { u: _, room } => disband(records, room),
-        Request::MakeLead { u: _, w, room } => leads::make_lead(records, w, room),
-        Request::EndLead { u: _, w, room } => leads::end_lead(records, w, room),
+        Request::Disband { room, .. } => disband(records, room),
+        Request::MakeLead { w, room, .. } => leads::make_lead(records, w, room),
+        Request::EndLead { w, room, .. } => leads::end_lead(records, w, room),
         Request::OpenInRoom {
             u,
             session,
@@ -91,18 +85,13 @@ pub fn apply(records: &mut Cells, request: Request, number: u32)
             level,
             categories,
         } => sessions::open_reading(records, u, session, level, categories),
-        Request::Read {
-            session: _,
-            script: _,
-            number: _,
-        } => {}
         Request::Update {
             session,
             script,
-            number: _,
+            ..
         } => update(records, session, script, number),
         Request::Create { session, script } => create(records, session, script, number),
-        Request::Kill { u: _, session } => sessions::kill(records, session),
-        Request::TakeBack { u: _ } => {}
+        Request::Kill { session, .. } => sessions::kill(records, session),
+        Request::Read { .. } | Request::TakeBack { .. } => {}
     }
 }

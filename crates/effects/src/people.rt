@@ -14,40 +14,44 @@ use sessions::Ending;
 fn joined(user: User, room: u8) -> User
     ensures { result ≡ joined room user }
 {
-    let mut member = user;
-    member.rooms = records::with(user.rooms, room);
-    member
+    User {
+        rooms: records::with(user.rooms, room),
+        ..user
+    }
 }
 
 fn left(user: User, room: u8) -> User
     ensures { result ≡ left room user }
 {
-    let mut member = user;
-    member.rooms = records::without(user.rooms, room);
-    member
+    User {
+        rooms: records::without(user.rooms, room),
+        ..user
+    }
 }
 
 // A freelancer; who is in a room already keeps the label.
 fn hired(user: User, level: u8, categories: u16) -> User
     ensures { result ≡ hired level categories user }
 {
-    let mut freelancer = user;
-    freelancer.sort = 1;
+    let freelancer = User { sort: 1, ..user };
     if user.rooms != 0 {
         return freelancer;
     }
-    freelancer.level = level;
-    freelancer.categories = categories;
-    freelancer
+    User {
+        level,
+        categories,
+        ..freelancer
+    }
 }
 
 fn parted(user: User, room: u8) -> User
     ensures { result ≡ parted room user }
 {
-    let mut other = user;
-    other.rooms = records::without(user.rooms, room);
-    other.leads = records::without(user.leads, room);
-    other
+    User {
+        rooms: records::without(user.rooms, room),
+        leads: records::without(user.leads, room),
+        ..user
+    }
 }
 
 // ---- enrolment and rooms

@@ -13,17 +13,19 @@ use records::{Cells, Draft, Script};
 fn placed_at(draft: Draft, place: u8) -> Draft
     ensures { result ≡ placed_at place draft }
 {
-    let mut more = draft;
-    more.places = records::with(draft.places, place);
-    more
+    Draft {
+        places: records::with(draft.places, place),
+        ..draft
+    }
 }
 
 fn unplaced(draft: Draft, room: u8) -> Draft
     ensures { result ≡ unplaced room draft }
 {
-    let mut less = draft;
-    less.places = records::without(draft.places, room);
-    less
+    Draft {
+        places: records::without(draft.places, room),
+        ..draft
+    }
 }
 
 // Add and Merge: a place more for the draft, where it is there.
@@ -171,7 +173,7 @@ pub(crate) fn cut_places(records: &mut Cells, room: u8) -> bool
         let draft = records::draft_at(records, i);
         let less = unplaced(draft, room);
         records::put_draft(records, i, less);
-        placed = placed & (less.places != 0);
+        placed &= less.places != 0;
     }
     placed
 }

@@ -42,6 +42,7 @@ impl Desk {
     }
 }
 
+// The three answers of a desk. Not a Result of an Option: that would name none of them; and `answer_byte` is said of any refusal number.
 #[derive(Clone, Copy)]
 pub enum Answer {
     Granted,

@@ -91,21 +91,14 @@ module _ {A : Type 0} {P : Plan A} {out₀ out : List ℕ} {at i end : ℕ} (p :
               (put_put p.put q (omega (arith, upto_room, upto_length)));
         }
 
-    -- one that has no bytes
-    pub upto_skip : P.bytes i (get_or P.list i P.none) ≡ [] → Upto P out₀ at (i + 1) end out
-    upto_skip e = upto_more (sym e) (put_none out end)
-
 -- i, said another way
 pub upto_at : {A : Type 0} {P : Plan A} {out₀ out : List ℕ} {at i k end : ℕ} → i ≡ k → Upto P out₀ at i end out → Upto P out₀ at k end out
 upto_at {A} {P} {out₀} {out} {at} {i} {k} {end} e p = subst (λ (n : ℕ). Upto P out₀ at n end out) e p
 
 -- ---- an element that is there or not
 module _ {A : Type 0} (form : Form A) (there : A → Bool) where
-  pub if_there : {text : List ℕ} (i : ℕ) {x y : A} → x ≡ y → there x ≡ true → text ≡ written form i x → text ≡ written_if form there i y
-  if_there i {x} e t w = w ∙ ap (λ (b : Bool). cond b (written form i x) []) (sym t) ∙ ap (written_if form there i) e
-
-  pub if_absent : (i : ℕ) {x y : A} → x ≡ y → there x ≡ false → written_if form there i y ≡ []
-  if_absent i {x} e t = ap (written_if form there i) (sym e) ∙ ap (λ (b : Bool). cond b (written form i x) []) t
+  pub text_if : {text : List ℕ} (i : ℕ) {x y : A} → x ≡ y → text ≡ written form i x → cond (there x) text [] ≡ written_if form there i y
+  text_if i {x} e w = ap (λ (m : List ℕ). cond (there x) m []) w ∙ ap (written_if form there i) e
 
   pub wide_if : (w : ℕ) → ((i : ℕ) (a : A) → length (written form i a) ≡ w) → (i : ℕ) (a : A) → length (written_if form there i a) ≤ w
   wide_if w h i a = go (there a)

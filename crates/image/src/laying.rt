@@ -1,5 +1,5 @@
 // The counter, the rule and the tables laid one behind the other: a table by a loop that writes the record of each element that is there.
-ghost use Rattle.std.specs.Prelude.{◌++◌, length, ◌+◌, ◌≤◌};
+ghost use Rattle.std.specs.Prelude.{[], ◌++◌, cond, length, ◌+◌, ◌≤◌};
 ghost use Rattle.records.specs.House.{view};
 ghost use Rattle.records.specs.Places.{has, room_numbers};
 ghost use Rattle.image.specs.Forms.{written, written_if, listed};
@@ -19,6 +19,14 @@ fn put(out: &mut [u8], at: usize, text: &[u8]) -> usize
     let end = at + text.len();
     out[at..end].copy_from_slice(text);
     end
+}
+
+// The same of a record, where it is there.
+fn put_if(there: bool, out: &mut [u8], at: usize, text: &[u8]) -> usize
+    requires { at + length text.now ≤ length out.old }
+    ensures { Put out.old at (cond there text.now []) result out.new }
+{
+    if there { put(out, at, text) } else { at }
 }
 
 fn lay_rule(rule: Rule, out: &mut [u8], at: usize) -> usize
@@ -51,11 +59,7 @@ fn lay_users(records: &Cells, out: &mut [u8], at: usize) -> usize
     let mut end = at;
     'users: for i in 0..64 {
         let user = records::user_at(records, i);
-        if !user.here {
-            continue 'users;
-        }
-        let text = user_bytes(i as u8, user);
-        end = put(out, end, &text);
+        end = put_if(user.here, out, end, &user_bytes(i as u8, user));
     }
     end
 }
@@ -67,11 +71,7 @@ fn lay_rooms(records: &Cells, out: &mut [u8], at: usize) -> usize
     let mut end = at;
     let rooms = records::rooms(records);
     'rooms: for room in 1..=16 {
-        if !records::has(rooms, room) {
-            continue 'rooms;
-        }
-        let text = room_bytes(room);
-        end = put(out, end, &text);
+        end = put_if(records::has(rooms, room), out, end, &room_bytes(room));
     }
     end
 }
@@ -83,11 +83,7 @@ fn lay_scripts(records: &Cells, out: &mut [u8], at: usize) -> usize
     let mut end = at;
     'scripts: for i in 0..64 {
         let script = records::script_at(records, i);
-        if !script.here {
-            continue 'scripts;
-        }
-        let text = script_bytes(i as u8, script);
-        end = put(out, end, &text);
+        end = put_if(script.here, out, end, &script_bytes(i as u8, script));
     }
     end
 }
@@ -99,11 +95,7 @@ fn lay_sessions(records: &Cells, out: &mut [u8], at: usize) -> usize
     let mut end = at;
     'sessions: for i in 0..64 {
         let session = records::session_at(records, i);
-        if !session.here {
-            continue 'sessions;
-        }
-        let text = session_bytes(i as u8, session);
-        end = put(out, end, &text);
+        end = put_if(session.here, out, end, &session_bytes(i as u8, session));
     }
     end
 }

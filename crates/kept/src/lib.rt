@@ -25,6 +25,7 @@ pub fn clear(log: &mut Log)
 }
 
 // How many changes are kept: never more than 32, whatever the byte says.
+#[tactic(auto, using(crate::proofs::Ring::past_length))]
 pub fn kept_count(log: &Log) -> usize
     ensures { (result ≡ length (past log.now)) × (result ≤ 32) }
 {
@@ -96,6 +97,7 @@ pub fn push(log: &mut Log, change: Change)
 }
 
 // The newest change goes.
+#[tactic(auto, using(crate::proofs::Ring::pop_one))]
 pub fn pop(log: &mut Log)
     ensures { past log.new ≡ popped (past log.old) }
 {

@@ -5,7 +5,7 @@ ghost use Rattle.std.specs.Prelude.{◌≡◌};
 ghost use Rattle.label.specs.Labels.{nothing, dominates, covers, differs, join, pack, unpack};
 
 // High is SysHigh and Low is SysLow. The fields can hold more than a good label does: dominance, join and packing take whatever they hold.
-#[derive(Clone, Copy)]
+#[derive(Clone, Copy, PartialEq, Eq)]
 pub enum Label {
     High,
     Low,
@@ -17,13 +17,14 @@ pub enum Label {
 }
 
 // Parts of a label: those that fail where one label is to dominate another, or those in which two labels differ.
-#[derive(Clone, Copy)]
+#[derive(Clone, Copy, PartialEq, Eq, Default)]
 pub struct Parts {
     pub level: bool,
     pub categories: bool,
     pub place: bool,
 }
 
+// The numbers that C passes for the two ends.
 const HIGH_NUMBER: u32 = 0xFF00_0000;
 
 const LOW_NUMBER: u32 = 0xFE00_0000;
@@ -54,33 +55,28 @@ impl Label {
 
     pub const SYS_LOW: Label = Label::Low;
 
-    // The parts that fail. Every pair of variants has its own arm: in an arm for several, the proof would not know which one it has.
+    // The parts that fail.
     pub fn dominates(self, other: Label) -> Parts
         ensures { result ≡ dominates self other }
     {
-        match self {
-            Label::High => Parts::NONE,
-            Label::Low => match other {
-                Label::High => Parts::ALL, // SysLow dominates itself alone
-                Label::Low => Parts::NONE,
-                Label::At { .. } => Parts::ALL,
-            },
-            Label::At {
-                place,
-                level,
-                categories,
-            } => match other {
-                Label::High => Parts::ALL,
-                Label::Low => Parts::NONE,
+        match (self, other) {
+            (Label::High, _) | (_, Label::Low) => Parts::NONE,
+            (Label::Low, _) | (_, Label::High) => Parts::ALL, // SysLow dominates itself alone
+            (
+                Label::At {
+                    place,
+                    level,
+                    categories,
+                },
                 Label::At {
                     place: p,
                     level: l,
                     categories: c,
-                } => Parts {
-                    level: level < l,
-                    categories: categories & c != c,
-                    place: place != p,
                 },
+            ) => Parts {
+                level: level < l,
+                categories: categories & c != c,
+                place: place != p,
             },
         }
     }
@@ -101,32 +97,31 @@ impl Label {
     pub fn join(self, other: Label) -> Label
         ensures { result ≡ join self other }
     {
-        match self {
-            Label::High => Label::SYS_HIGH,
-            Label::Low => other,
-            Label::At {
-                place,
-                level,
-                categories,
-            } => match other {
-                Label::High => Label::SYS_HIGH,
-                Label::Low => self,
+        match (self, other) {
+            (Label::High, _) | (_, Label::High) => Label::SYS_HIGH,
+            (Label::Low, _) => other,
+            (_, Label::Low) => self,
+            (
+                Label::At {
+                    place,
+                    level,
+                    categories,
+                },
                 Label::At {
                     place: p,
                     level: l,
                     categories: c,
-                } => {
-                    if place != p {
-                        return Label::SYS_HIGH; // only SysHigh dominates labels at two places
-                    }
-                    let larger = if level < l { l } else { level };
-                    Label::At {
-                        place,
-                        level: larger,
-                        categories: categories | c,
-                    }
+                },
+            ) => {
+                if place != p {
+                    return Label::SYS_HIGH; // only SysHigh dominates labels at two places
                 }
-            },
+                Label::At {
+                    place,
+                    level: level.max(l),
+                    categories: categories | c,
+                }
+            }
         }
     }
 
@@ -140,7 +135,10 @@ impl Label {
                 place,
                 level,
                 categories,
-            } => place as u32 * 0x100_0000 + level as u32 * 0x1_0000 + categories as u32,
+            } => {
+                let [c1, c2] = categories.to_be_bytes();
+                u32::from_be_bytes([place, level, c1, c2])
+            }
         }
     }
 
@@ -155,9 +153,7 @@ impl Label {
         if number == LOW_NUMBER {
             return Some(Label::SYS_LOW);
         }
-        let place = (number / 0x100_0000) as u8;
-        let level = (number / 0x1_0000 % 0x100) as u8;
-        let categories = (number % 0x1_0000) as u16;
+        let [place, level, c1, c2] = number.to_be_bytes();
         if 16 < place {
             return None;
         }
@@ -167,7 +163,7 @@ impl Label {
         Some(Label::At {
             place,
             level,
-            categories,
+            categories: u16::from_be_bytes([c1, c2]),
         })
     }
 }

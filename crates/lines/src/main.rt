@@ -227,8 +227,8 @@ fn hex(word: &[u8], room: &mut [u8]) -> usize {
 
 // A line that the end of the input cuts short has no ruling.
 fn case<W: Write>(out: &mut W, line: &[u8]) -> io::Result<()> {
-    let whole = line.strip_suffix(b"\n");
-    let mut fields = whole.unwrap_or(line).split(|byte| *byte == b' ');
+    let ended = line.strip_suffix(b"\n");
+    let mut fields = ended.unwrap_or(line).split(|byte| *byte == b' ');
     let house = fields.next().unwrap_or_default();
     let mut frame = [0u8; 16];
     let n = hex(fields.next().unwrap_or_default(), &mut frame);
@@ -236,7 +236,7 @@ fn case<W: Write>(out: &mut W, line: &[u8]) -> io::Result<()> {
         write!(out, "{:02X} ", frame[0])?;
         out.write_all(word)?;
     }
-    if whole.is_none() {
+    if ended.is_none() {
         return Ok(());
     }
     let letter = house.last().copied().unwrap_or_default();

@@ -7,10 +7,10 @@ mod sessions;
 mod shared;
 mod texts;
 
-ghost use Rattle.std.specs.Prelude.{◌≡◌, [], ◌∷◌, not};
+ghost use Rattle.std.specs.Prelude.{ok_or, ◌≡◌, [], ◌∷◌, not};
 ghost use Rattle.records.specs.House.{as_number};
 ghost use Rattle.records.specs.Places.{only};
-ghost use Rattle.reasons.specs.Reasons.{decided, no_record, bare, kind_number};
+ghost use Rattle.reasons.specs.Reasons.{reason, decided, no_record, bare, kind_number};
 ghost use Rattle.reasons.specs.Asking.{◌unless◌, ◌because◌, asked, told};
 ghost use Rattle.reasons.specs.Shared.{label_lines};
 
@@ -30,6 +30,7 @@ pub use shared::{draft_asked, draft_led, pair_led, pair_numbers};
 pub use texts::{among, draft_exists, imports, not_among, of_origin, script_exists, script_new};
 
 // The refusal's number, the kind and id of the record that decided (0 and 0 where none did), the value that it holds, the value wanted.
+// A number, and no enum: 01 and the pages name a refusal by it alone, `lowest` compares numbers, and C reads it and the kind.
 #[derive(Clone, Copy)]
 pub struct Reason {
     pub number: u8,
@@ -102,13 +103,20 @@ fn of(kind: Kind, number: u8, fact: bool, id: u32, held: u32, wanted: u32) -> Re
     line(number, fact, kind as u8, id, held, wanted)
 }
 
-// What must exist, and what must not: its id is told twice.
-fn exists(there: bool, id: u8) -> Result<(), Reason>
-    ensures { result ≡ asked (4 unless there because no_record id 0 ∷ []) }
+// A lookup that finds nothing is itself refusal 4.
+fn exists(found: Option<usize>, id: u32) -> Result<usize, Reason>
+    ensures { result ≡ ok_or found (reason 4 (no_record id 0)) }
 {
-    no_record(4, there, u32::from(id), 0)
+    let Some(at) = found else {
+        return Err(Reason {
+            held: id,
+            ..bare(4)
+        });
+    };
+    Ok(at)
 }
 
+// What must not be there: its id is told twice.
 fn is_new(kind: Kind, there: bool, id: u8) -> Result<(), Reason>
     ensures { result ≡ asked (5 unless not there because decided (kind_number kind) id id id ∷ []) }
 {

@@ -7,26 +7,29 @@ ghost use Rattle.reasons.specs.Asking.{◌unless◌, ◌because◌, asked};
 ghost use Rattle.reasons.specs.Lines.{user_exists, room_exists, enroller_exists, user_new, room_new, enrolls, administers, leads_room, of_staff, not_of_staff, a_freelancer, not_yet_in, in_room, not_yet_lead, is_lead, another_lead};
 ghost use Rattle.reasons.specs.Shared.{opens};
 
-use crate::{Kind, Reason, exists, is_new, labels, of, only};
+use crate::{Kind, Reason, exists, is_new, labels, no_record, of, only};
 use records::Cells;
 
 pub fn user_exists(records: &Cells, u: u8) -> Result<(), Reason>
     ensures { result ≡ asked (user_exists (view records.now) u ∷ []) }
 {
-    exists(records::find_user(records, u).is_some(), u)
+    exists(records::find_user(records, u), u32::from(u))?;
+    Ok(())
 }
 
 pub fn room_exists(records: &Cells, room: u8) -> Result<(), Reason>
     ensures { result ≡ asked (room_exists (view records.now) room ∷ []) }
 {
-    exists(records::find_room(records, room).is_some(), room)
+    exists(records::find_room(records, room), u32::from(room))?;
+    Ok(())
 }
 
 // Empty: there are no users.
 pub fn enroller_exists(records: &Cells, empty: bool, u: u8) -> Result<(), Reason>
     ensures { result ≡ asked (enroller_exists (view records.now) empty u ∷ []) }
 {
-    exists(empty | conditions::is_user(records, usize::from(u)), u)
+    let there = empty | conditions::is_user(records, usize::from(u));
+    no_record(4, there, u32::from(u), 0)
 }
 
 pub fn user_new(records: &Cells, new: u8) -> Result<(), Reason>

@@ -6,8 +6,8 @@ mod sessions;
 mod sets;
 mod texts;
 
-ghost use Rattle.std.specs.Prelude.{◌≡◌, length};
-ghost use Rattle.records.specs.House.{as_number, view, empty_house};
+ghost use Rattle.std.specs.Prelude.{◌≡◌};
+ghost use Rattle.records.specs.House.{view, empty_house};
 
 pub use people::{find_room, find_user, no_user, put_rooms, put_user, rooms, user_at};
 pub use sessions::{find_session, no_session, put_session, session_at};
@@ -29,8 +29,11 @@ const SESSIONS: usize = 706;
 
 const DRAFTS: usize = 1090;
 
+// Whether an element is there is a field, and no Option, and a sort is a number: `view` shows what the cells hold, and C lends any cells, so that an absent
+// user may have a lead, which `lead_count` counts.
+//
 // Sort: 0 staff, 1 freelancer, 2 outsider. Rooms and leads are sets: the rooms joined, the rooms led.
-#[derive(Clone, Copy)]
+#[derive(Clone, Copy, PartialEq, Eq, Default)]
 pub struct User {
     pub here: bool,
     pub sort: u8,
@@ -41,7 +44,7 @@ pub struct User {
     pub admin: bool,
 }
 
-#[derive(Clone, Copy)]
+#[derive(Clone, Copy, PartialEq, Eq, Default)]
 pub struct Script {
     pub here: bool,
     pub level: u8,
@@ -50,7 +53,7 @@ pub struct Script {
 }
 
 // Writes: an RW session, at a place; an RO session has none, and 255 stands there.
-#[derive(Clone, Copy)]
+#[derive(Clone, Copy, PartialEq, Eq, Default)]
 pub struct Session {
     pub here: bool,
     pub owner: u8,
@@ -60,7 +63,7 @@ pub struct Session {
     pub place: u8,
 }
 
-#[derive(Clone, Copy)]
+#[derive(Clone, Copy, PartialEq, Eq, Default)]
 pub struct Draft {
     pub number: u32,
     pub script: u8,
@@ -68,29 +71,10 @@ pub struct Draft {
 }
 
 // The rule that a desk is opened under, for its whole life: what Import asks of the labels of two scripts.
-#[derive(Clone, Copy)]
+#[derive(Clone, Copy, PartialEq, Eq)]
 pub enum Rule {
     One,
     Two,
-}
-
-// The type says how many cells there are; a slice of them tells the proof.
-fn count(cells: &[u32]) -> usize
-    ensures { result ≡ length cells.now }
-{
-    cells.len()
-}
-
-fn sized(records: &Cells)
-    ensures { length records.now ≡ 1858 }
-{
-    count(records);
-}
-
-fn flag(yes: bool) -> u32
-    ensures { result ≡ as_number yes }
-{
-    if yes { 1 } else { 0 }
 }
 
 // No user, no room, no script, no session, no draft.

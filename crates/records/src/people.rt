@@ -4,23 +4,16 @@ ghost use Rattle.records.specs.House.{no_user, view, user, put_user, put_rooms};
 ghost use Rattle.records.specs.Lookups.{find_user, find_room};
 
 use crate::sets::has;
-use crate::{Cells, USERS, User, flag, sized};
+use crate::{Cells, USERS, User};
 
 // ---- reading and storing: past the end the absent one is read and nothing is stored
 pub fn no_user() -> User
     ensures { result ≡ no_user }
 {
-    User {
-        here: false,
-        sort: 0,
-        level: 0,
-        categories: 0,
-        rooms: 0,
-        leads: 0,
-        admin: false,
-    }
+    User::default()
 }
 
+#[tactic(auto, using(crate::proofs::Tables::table_at, crate::proofs::Tables::table_past, crate::proofs::Views::user_laid), unfolding(crate::specs::House::view))]
 pub fn user_at(records: &Cells, i: usize) -> User
     ensures { result ≡ user (view records.now) i }
 {
@@ -42,30 +35,30 @@ pub fn user_at(records: &Cells, i: usize) -> User
 pub fn put_user(records: &mut Cells, i: usize, user: User)
     ensures { view records.new ≡ put_user (view records.old) i user }
 {
-    sized(records);
     if 63 < i {
         return;
     }
     let at = USERS + 7 * i;
-    records[at] = flag(user.here);
+    records[at] = u32::from(user.here);
     records[at + 1] = user.sort as u32;
     records[at + 2] = user.level as u32;
     records[at + 3] = user.categories as u32;
     records[at + 4] = user.rooms;
     records[at + 5] = user.leads;
-    records[at + 6] = flag(user.admin);
+    records[at + 6] = u32::from(user.admin);
 }
 
+#[tactic(auto, unfolding(crate::specs::House::view))]
 pub fn rooms(records: &Cells) -> u32
     ensures { result ≡ (view records.now).rooms }
 {
     records[0]
 }
 
+#[tactic(auto, using(crate::proofs::Views::view_rooms))]
 pub fn put_rooms(records: &mut Cells, rooms: u32)
     ensures { view records.new ≡ put_rooms (view records.old) rooms }
 {
-    sized(records);
     records[0] = rooms;
 }
 

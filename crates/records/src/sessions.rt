@@ -3,21 +3,15 @@ ghost use Rattle.std.specs.Prelude.{◌≡◌};
 ghost use Rattle.records.specs.House.{no_session, view, session, put_session};
 ghost use Rattle.records.specs.Lookups.{find_session};
 
-use crate::{Cells, SESSIONS, Session, flag, sized};
+use crate::{Cells, SESSIONS, Session};
 
 pub fn no_session() -> Session
     ensures { result ≡ no_session }
 {
-    Session {
-        here: false,
-        owner: 0,
-        level: 0,
-        categories: 0,
-        writes: false,
-        place: 0,
-    }
+    Session::default()
 }
 
+#[tactic(auto, using(crate::proofs::Tables::table_at, crate::proofs::Tables::table_past, crate::proofs::Views::session_laid), unfolding(crate::specs::House::view))]
 pub fn session_at(records: &Cells, i: usize) -> Session
     ensures { result ≡ session (view records.now) i }
 {
@@ -38,16 +32,15 @@ pub fn session_at(records: &Cells, i: usize) -> Session
 pub fn put_session(records: &mut Cells, i: usize, session: Session)
     ensures { view records.new ≡ put_session (view records.old) i session }
 {
-    sized(records);
     if 63 < i {
         return;
     }
     let at = SESSIONS + 6 * i;
-    records[at] = flag(session.here);
+    records[at] = u32::from(session.here);
     records[at + 1] = session.owner as u32;
     records[at + 2] = session.level as u32;
     records[at + 3] = session.categories as u32;
-    records[at + 4] = flag(session.writes);
+    records[at + 4] = u32::from(session.writes);
     records[at + 5] = session.place as u32;
 }
 

@@ -4,20 +4,16 @@ ghost use Rattle.records.specs.Tables.{put_at};
 ghost use Rattle.records.specs.House.{no_script, draft_table, view, script, draft_at, put_script, put_draft, cut_drafts, add_draft};
 ghost use Rattle.records.specs.Lookups.{find_script, first_from, draft_is, find_draft};
 
-use crate::{Cells, DRAFTS, Draft, SCRIPTS, Script, flag, sized};
+use crate::{Cells, DRAFTS, Draft, SCRIPTS, Script};
 
 // ---- scripts: past the end the absent one is read and nothing is stored
 pub fn no_script() -> Script
     ensures { result ≡ no_script }
 {
-    Script {
-        here: false,
-        level: 0,
-        categories: 0,
-        origin: 0,
-    }
+    Script::default()
 }
 
+#[tactic(auto, using(crate::proofs::Tables::table_at, crate::proofs::Tables::table_past, crate::proofs::Views::script_laid), unfolding(crate::specs::House::view))]
 pub fn script_at(records: &Cells, i: usize) -> Script
     ensures { result ≡ script (view records.now) i }
 {
@@ -36,12 +32,11 @@ pub fn script_at(records: &Cells, i: usize) -> Script
 pub fn put_script(records: &mut Cells, i: usize, script: Script)
     ensures { view records.new ≡ put_script (view records.old) i script }
 {
-    sized(records);
     if 63 < i {
         return;
     }
     let at = SCRIPTS + 4 * i;
-    records[at] = flag(script.here);
+    records[at] = u32::from(script.here);
     records[at + 1] = script.level as u32;
     records[at + 2] = script.categories as u32;
     records[at + 3] = script.origin as u32;
@@ -55,29 +50,21 @@ pub fn find_script(records: &Cells, script: u8) -> Option<usize>
 }
 
 // ---- drafts
-fn wide(x: u32) -> usize
-    ensures { result ≡ x }
-{
-    x as usize
-}
-
 // How many drafts live: at most 256, whatever the cell says.
+#[tactic(auto, using(crate::proofs::Views::count_drafts))]
 pub fn draft_count(records: &Cells) -> usize
     ensures { (result ≡ length (view records.now).drafts) × (result ≤ 256) }
 {
-    let n = wide(records[1]);
+    let n = records[1] as usize;
     if n < 256 { n } else { 256 }
 }
 
+#[tactic(auto, using(crate::proofs::Views::live_at))]
 pub fn draft_at(records: &Cells, i: usize) -> Draft
     ensures { result ≡ draft_at (view records.now) i }
 {
     if draft_count(records) <= i {
-        return Draft {
-            number: 0,
-            script: 0,
-            places: 0,
-        };
+        return Draft::default();
     }
     let at = DRAFTS + 3 * i;
     Draft {
@@ -102,7 +89,6 @@ fn write_draft(records: &mut Cells, i: usize, draft: Draft)
 pub fn put_draft(records: &mut Cells, i: usize, draft: Draft)
     ensures { view records.new ≡ put_draft (view records.old) i draft }
 {
-    sized(records);
     if 255 < i {
         return;
     }
@@ -110,10 +96,10 @@ pub fn put_draft(records: &mut Cells, i: usize, draft: Draft)
 }
 
 // The first n drafts, where more live.
+#[tactic(auto, using(crate::proofs::Views::view_cut))]
 pub fn cut_drafts(records: &mut Cells, n: usize)
     ensures { view records.new ≡ cut_drafts (view records.old) n }
 {
-    sized(records);
     if draft_count(records) <= n {
         return;
     }
@@ -121,10 +107,10 @@ pub fn cut_drafts(records: &mut Cells, n: usize)
 }
 
 // One draft more, behind the others, where there is room for it.
+#[tactic(auto, using(crate::proofs::Views::view_add, crate::proofs::Views::add_full, crate::proofs::Views::draft_again))]
 pub fn add_draft(records: &mut Cells, draft: Draft)
     ensures { view records.new ≡ add_draft (view records.old) draft }
 {
-    sized(records);
     let n = draft_count(records);
     if 255 < n {
         return;

@@ -1,5 +1,5 @@
 -- A request written out by 01's table: its kind, then its fields.
-use Rattle.std.specs.Prelude.{ℕ, ◌/◌, ◌%◌, List, [], ◌∷◌, ◌++◌, take, replicate}
+use Rattle.std.specs.Prelude.{ℕ, List, [], ◌∷◌, ◌++◌, take, replicate}
 use Rattle.request.specs.Bytes.{pair_bytes, quad_bytes}
 use Rattle.request.specs.declared.Request.{Request}
 

@@ -10,7 +10,7 @@ ghost use Rattle.request.specs.Kinds.{body_length};
 pub use reading::{first, read, request_of, start_of};
 pub use writing::write;
 
-// One variant a kind; the fields stand in the order of their bytes.
+// One variant a kind; the fields stand in the order of their bytes. They hold any byte, also one that 3 refuses (`read_is_written`), so a sort is no enum.
 #[derive(Clone, Copy)]
 pub enum Request {
     Enrol {
@@ -138,7 +138,7 @@ pub enum FrameError {
 // Nine bytes: the longest frame.
 pub type FrameBytes = [u8; 9];
 
-// The length that no body has: it says that no request has the kind.
+// The length that no body has: it says that no request has the kind. A number, and no Option, since C reads it (include/desk.h).
 pub(crate) const UNKNOWN: u32 = 255;
 
 // The body's length by ranges of kinds. Each line begins a range: a kind below it keeps the length that it had. Nothing is looked up: the caption

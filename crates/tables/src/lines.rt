@@ -40,7 +40,8 @@ fn session<W: Write>(out: &mut W, records: &Cells, s: usize) -> io::Result<()> {
     }
     let mode = if session.writes { "RW" } else { "RO" };
     write!(out, "session {s} owner {}", session.owner)?;
-    write!(out, " level {} categories {:04x}", session.level, session.categories)?;
+    write!(out, " level {}", session.level)?;
+    write!(out, " categories {:04x}", session.categories)?;
     writeln!(out, " {mode} place {}", session.place)
 }
 

@@ -29,7 +29,7 @@ fn name(kind: u8) -> &'static str {
         0x15 => "Create",
         0x16 => "Kill",
         0x20 => "Take back",
-        _ => "none",
+        _ => "unknown",
     }
 }
 
@@ -43,8 +43,9 @@ fn length_of(kind: u8) -> usize
 
 // The step's number, the kind's name, and the request's bytes.
 fn announce<W: Write>(out: &mut W, ordinal: u32, kind: u8, body: u64) -> io::Result<()> {
+    let name = name(kind);
     let width = 2 * length_of(kind);
-    write!(out, "step {ordinal} {} {kind:02x}{body:0width$x}", name(kind))
+    write!(out, "step {ordinal} {name} {kind:02x}{body:0width$x}")
 }
 
 // The request's bytes: the kind, then the body's number, most significant byte first.

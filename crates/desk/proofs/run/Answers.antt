@@ -9,23 +9,23 @@ use Rattle.desk.proofs.Steps.{part_length}
 use Rattle.desk.proofs.run.Goals as goal
 use Rattle.desk.proofs.run.Goals.{After-answer_piece-turn}
 
-inside : (c : After-answer_piece-turn) → c.loop-turns.have ≤ length c.loop-turns.buf
+inside : (c : After-answer_piece-turn) → c.loop-turn.have ≤ length c.loop-turn.buf
 inside c =
-    let h = c.loop-turns.invariant.1 in
+    let h = c.loop-turn.invariant.1 in
     omega (arith, h.few, h.buf_length)
 
-size : (c : After-answer_piece-turn) → length (filled c.loop-turns.buf c.loop-turns.have c.read_piece.new.buf) ≡ length c.loop-turns.buf
-size c = filled_length c.loop-turns.buf c.loop-turns.have c.read_piece.new.buf (inside c) c.read_piece.auto.buf
+size : (c : After-answer_piece-turn) → length (filled c.loop-turn.buf c.loop-turn.have c.read_piece.new.buf) ≡ length c.loop-turn.buf
+size c = filled_length c.loop-turn.buf c.loop-turn.have c.read_piece.new.buf (inside c) c.read_piece.auto.buf
 
-room : (c : After-answer_piece-turn) → c.loop-turns.have + c.in_ok-got.got ≤ length (filled c.loop-turns.buf c.loop-turns.have c.read_piece.new.buf)
-room c = omega (arith, size c, inside c, c.in_ok-got.ensures.0, c.read_piece.auto.buf, part_length c.loop-turns.have c.loop-turns.buf)
+room : (c : After-answer_piece-turn) → c.loop-turn.have + c.in_ok-got.got ≤ length (filled c.loop-turn.buf c.loop-turn.have c.read_piece.new.buf)
+room c = omega (arith, size c, inside c, c.in_ok-got.ensures.0, c.read_piece.auto.buf, part_length c.loop-turn.have c.loop-turn.buf)
 
 parts : (c : After-answer_piece-turn) → SameParts c.args.desk.now c.answer_piece-turn.new.desk
-parts c = same_on c.loop-turns.invariant.0 c.answer_piece-turn.ensures.parts
+parts c = same_on c.loop-turn.invariant.0 c.answer_piece-turn.ensures.parts
 
 led : (c : After-answer_piece-turn) → LedTo c.args.desk.now.rule c.args.why (lent c.args.desk.now) (lent c.answer_piece-turn.new.desk)
 led c =
-    let l = c.loop-turns in
+    let l = c.loop-turn in
     let h = l.invariant.1 in
     let a = c.answer_piece-turn in
     led_on h (filled l.buf l.have c.read_piece.new.buf) (filled_same l.buf l.have c.read_piece.new.buf (inside c)) c.in_ok-got.got (room c) (size c ∙ h.buf_length) a.result a.new.buf a.new.out
@@ -41,12 +41,12 @@ returns-then-not-turn c =
     let x = (goal.at.returns-then-not-turn c).After-answer_piece-turn in
     record { parts = parts x; led = led x }
 
-pub loop-turns-preserved : goal.loop-turns-preserved
-loop-turns-preserved c =
-    let l = c.loop-turns in
+pub loop-turn-preserved : goal.loop-turn-preserved
+loop-turn-preserved c =
+    let l = c.loop-turn in
     let h = l.invariant.1 in
     let a = c.answer_piece-turn in
-    let x = (goal.at.loop-turns-preserved c).After-answer_piece-turn in (
+    let x = (goal.at.loop-turn-preserved c).After-answer_piece-turn in (
       parts x,
       again h (filled l.buf l.have c.read_piece.new.buf) (filled_same l.buf l.have c.read_piece.new.buf (inside x)) c.in_ok-got.got (room x) (size x ∙ h.buf_length) a.result a.new.buf a.new.out
           (rw l.invariant.0.rule at a.ensures.done) (a.auto.buf ∙ size x ∙ h.buf_length) (a.auto.out ∙ h.out_length) (not-false _ c.if-not-turn.false),

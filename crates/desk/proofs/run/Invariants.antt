@@ -3,6 +3,6 @@ use Rattle.history.specs.Lent.{lent, SameParts}
 use Rattle.desk.proofs.Loop.{Between}
 use Rattle.desk.proofs.run.Given as goal
 
-abbrev pub invariant-loop-turns : goal.invariant-loop-turns
-invariant-loop-turns l =
+abbrev pub invariant-loop-turn : goal.invariant-loop-turn
+invariant-loop-turn l =
     SameParts l.initial.desk l.desk × Between l.initial.desk.rule l.why (lent l.initial.desk) (lent l.desk) l.ordinal l.have l.turns l.buf l.out

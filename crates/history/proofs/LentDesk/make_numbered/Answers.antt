@@ -3,9 +3,7 @@ use Rattle.std.specs.Prelude.{Some}
 use mathlib.Core.Path.{◌≡◌, sym, ap, ◌∙◌}
 use Rattle.counter.specs.Numbers.{next_after}
 use Rattle.history.specs.Machine.{outcome, keep_change}
-use Rattle.history.specs.Desk.{desk_rules}
 use Rattle.history.specs.declared.Answer.TheVariants.{Numbered}
-use Rattle.effects.specs.Effects.{change_of}
 use Rattle.history.proofs.Laws.{number_is_last}
 use Rattle.history.proofs.LentDesk.make_numbered.Goals as goal
 

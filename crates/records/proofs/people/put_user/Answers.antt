@@ -15,4 +15,4 @@ returns-then-i-gt63 c =
 pub returns : goal.returns
 returns c =
     let a = c.args in
-    rw (c.flag-2.ensures, c.flag.ensures) (rw (add-zero (start user_table a.i)) at (view_user a.records.now c.sized.ensures a.i a.user (user_again a.user (omega arith) (omega arith) (omega arith)) (omega arith)))
+    rw (c.from.ensures, c.from-2.ensures) (rw (add-zero (start user_table a.i)) at (view_user a.records.now (omega arith) a.i a.user (user_again a.user (omega arith) (omega arith) (omega arith)) (omega arith)))

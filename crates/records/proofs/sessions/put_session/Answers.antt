@@ -15,4 +15,4 @@ returns-then-i-gt63 c =
 pub returns : goal.returns
 returns c =
     let a = c.args in
-    rw (c.flag-2.ensures, c.flag.ensures) (rw (add-zero (start session_table a.i)) at (view_session a.records.now c.sized.ensures a.i a.session (session_again a.session (omega arith) (omega arith) (omega arith) (omega arith)) (omega arith)))
+    rw (c.from.ensures, c.from-2.ensures) (rw (add-zero (start session_table a.i)) at (view_session a.records.now (omega arith) a.i a.session (session_again a.session (omega arith) (omega arith) (omega arith) (omega arith)) (omega arith)))

@@ -17,4 +17,4 @@ returns-then-i-gt255 c =
 pub returns : goal.returns
 returns c =
     let a = c.args in
-    rw c.write_draft.ensures (view_draft a.records.now c.sized.ensures a.i a.draft (draft_again a.draft (omega arith)) (omega arith))
+    rw c.write_draft.ensures (view_draft a.records.now (omega arith) a.i a.draft (draft_again a.draft (omega arith)) (omega arith))

@@ -15,4 +15,4 @@ returns-then-i-gt63 c =
 pub returns : goal.returns
 returns c =
     let a = c.args in
-    rw c.flag.ensures (rw (add-zero (start script_table a.i)) at (view_script a.records.now c.sized.ensures a.i a.script (script_again a.script (omega arith) (omega arith) (omega arith)) (omega arith)))
+    rw c.from.ensures (rw (add-zero (start script_table a.i)) at (view_script a.records.now (omega arith) a.i a.script (script_again a.script (omega arith) (omega arith) (omega arith)) (omega arith)))
