@@ -155,7 +155,7 @@ fn serve_new(
 }
 
 fn open_file(bytes: &[u8], desk: &mut LentDesk) -> Result<(), OpenError>
-    ensures parts { SamePlaces desk.old desk.new }
+    ensures places { SamePlaces desk.old desk.new }
     ensures done { opens_desk result (lent desk.new) desk.new.rule ≡ file_by (lent desk.old) bytes.now }
 {
     if 65536 < bytes.len() {
