@@ -1,5 +1,6 @@
--- How many digits a number takes, the laws that the functions' proofs cite, what is printed for an input in pieces, five lines worked out, that the batch agrees, and the folder of a name.
+-- How many digits a number takes, another spelling of them, the laws that the functions' proofs cite, what is printed for an input in pieces, five lines worked out, that the batch agrees, and the folder of a name.
 pub mod Decimal
+pub mod DecimalDigits
 pub mod Texts
 pub mod Frames
 pub mod Steps
