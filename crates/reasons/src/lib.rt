@@ -7,7 +7,7 @@ mod sessions;
 mod shared;
 mod texts;
 
-ghost use Rattle.std.specs.Prelude.{ok_or, ◌≡◌, [], ◌∷◌, not};
+ghost use Rattle.std.specs.Prelude.{is_some, ◌≡◌, [], ◌∷◌, not};
 ghost use Rattle.records.specs.House.{as_number};
 ghost use Rattle.records.specs.Places.{only};
 ghost use Rattle.reasons.specs.Reasons.{reason, decided, no_record, bare, kind_number};
@@ -103,17 +103,25 @@ fn of(kind: Kind, number: u8, fact: bool, id: u32, held: u32, wanted: u32) -> Re
     line(number, fact, kind as u8, id, held, wanted)
 }
 
-// A lookup that finds nothing is itself refusal 4.
-fn exists(found: Option<usize>, id: u32) -> Result<usize, Reason>
-    ensures { result ≡ ok_or found (reason 4 (no_record id 0)) }
+// What must exist and does not.
+fn missing(id: u32) -> Reason
+    ensures { result ≡ reason 4 (no_record id 0) }
 {
-    let Some(at) = found else {
-        return Err(Reason {
-            held: id,
-            ..bare(4)
-        });
+    Reason {
+        held: id,
+        ..bare(4)
+    }
+}
+
+// A lookup that finds nothing is itself refusal 4.
+#[tactic(auto, unfolding(crate::specs::Asking::asked))]
+fn exists(found: Option<usize>, id: u8) -> Result<(), Reason>
+    ensures { result ≡ asked (4 unless is_some found because no_record id 0 ∷ []) }
+{
+    let Some(_) = found else {
+        return Err(missing(u32::from(id)));
     };
-    Ok(at)
+    Ok(())
 }
 
 // What must not be there: its id is told twice.

@@ -13,15 +13,13 @@ use records::Cells;
 pub fn user_exists(records: &Cells, u: u8) -> Result<(), Reason>
     ensures { result ≡ asked (user_exists (view records.now) u ∷ []) }
 {
-    exists(records::find_user(records, u), u32::from(u))?;
-    Ok(())
+    exists(records::find_user(records, u), u)
 }
 
 pub fn room_exists(records: &Cells, room: u8) -> Result<(), Reason>
     ensures { result ≡ asked (room_exists (view records.now) room ∷ []) }
 {
-    exists(records::find_room(records, room), u32::from(room))?;
-    Ok(())
+    exists(records::find_room(records, room), room)
 }
 
 // Empty: there are no users.

@@ -13,8 +13,7 @@ use records::Cells;
 pub fn session_exists(records: &Cells, session: u8) -> Result<(), Reason>
     ensures { result ≡ asked (session_exists (view records.now) session ∷ []) }
 {
-    exists(records::find_session(records, session), u32::from(session))?;
-    Ok(())
+    exists(records::find_session(records, session), session)
 }
 
 pub fn session_new(records: &Cells, session: u8) -> Result<(), Reason>

@@ -8,22 +8,24 @@ ghost use Rattle.reasons.specs.Lines.{script_exists, draft_exists, script_new, d
 ghost use Rattle.reasons.specs.Shared.{imports};
 ghost use Rattle.reasons.specs.Reach.{reached_by};
 
-use crate::{Kind, Reason, exists, is_new, labels, of, only};
+use crate::{Kind, Reason, exists, is_new, labels, missing, of, only};
 use records::{Cells, Rule};
 
 pub fn script_exists(records: &Cells, script: u8) -> Result<(), Reason>
     ensures { result ≡ asked (script_exists (view records.now) script ∷ []) }
 {
-    exists(records::find_script(records, script), u32::from(script))?;
-    Ok(())
+    exists(records::find_script(records, script), script)
 }
 
 // The draft is searched once: later lines ask of the place where it was found.
-#[tactic(auto, using(crate::proofs::Lookups::searched))]
+#[tactic(auto, using(crate::proofs::Lookups::found, crate::proofs::Lookups::nothing))]
 pub fn draft_exists(records: &Cells, script: u8, number: u32) -> Result<usize, Reason>
     ensures { result ≡ reached_by (view records.now) script number (asked (draft_exists (view records.now) script number ∷ [])) }
 {
-    exists(records::find_draft(records, script, number), number)
+    let Some(at) = records::find_draft(records, script, number) else {
+        return Err(missing(number));
+    };
+    Ok(at)
 }
 
 pub fn script_new(records: &Cells, script: u8) -> Result<(), Reason>

@@ -25,6 +25,7 @@ pub fn of_ruling(ruling: Result<Grant, Reason>, last: u32, kept: u32) -> Reason
 }
 
 // Of a request, on a desk under the rule.
+#[tactic(auto, using(crate::proofs::Ruled::from_ruling))]
 pub fn explain(records: &Cells, rule: Rule, last: u32, kept: u32, request: Request) -> Reason
     ensures { result ≡ reason_of rule (view records.now) last kept request }
 {
