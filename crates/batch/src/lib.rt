@@ -86,6 +86,7 @@ pub fn run(desk: &mut LentDesk, requests: &[u8], answers: &mut [u8], place: usiz
 {
     let mut used: usize = 0;
     let mut at = place;
+    // How far a turn goes is known only after its request; that the stop is yielded by break is 01's form.
     let stop = loop {
         if requests.len() <= used {
             break Stop::End;

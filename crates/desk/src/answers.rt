@@ -110,6 +110,7 @@ pub(crate) fn answer_all(
     let mut ordinal = first;
     let mut used: usize = 0;
     let mut text: usize = 0;
+    // How far a turn goes is known only after its request.
     let onward = loop {
         if requests.len() <= used {
             break !ended;

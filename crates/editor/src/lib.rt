@@ -6,6 +6,7 @@ ghost use Rattle.editor.specs.Answers.{dominance_answer, join_answer, body_lengt
 
 use label::Label;
 
+// Numbers, since C reads them (include/desk.h).
 const YES: u32 = 1;
 
 const NO: u32 = 0;

@@ -12,7 +12,7 @@ use effects::Change;
 use records::Cells;
 
 // Byte 0 is the slot of the oldest change and byte 1 their number; then 32 slots of 13 bytes: nine of the request, four of the number.
-// A ring, so that a full log takes one more without moving the others.
+// A ring, so that a full log takes one more without moving the others; of bytes, since C lends it and there is no heap.
 pub type Log = [u8; 418];
 
 const SLOTS: usize = 2;

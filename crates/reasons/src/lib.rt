@@ -8,13 +8,14 @@ mod shared;
 mod texts;
 
 ghost use Rattle.std.specs.Prelude.{is_some, ◌≡◌, [], ◌∷◌, not};
-ghost use Rattle.records.specs.House.{as_number};
 ghost use Rattle.records.specs.Places.{only};
 ghost use Rattle.reasons.specs.Reasons.{reason, decided, no_record, bare, kind_number};
 ghost use Rattle.reasons.specs.Asking.{◌unless◌, ◌because◌, asked, told};
 ghost use Rattle.reasons.specs.Shared.{label_lines};
 
 use label::Parts;
+
+// A function for each condition of the table of reasons, by its name, though several have one shape.
 pub use numbers::{
     change_left, draft_room, first_has, id, level, number_left, plain, room_high, room_low, sort,
     yes_no,

@@ -1,5 +1,5 @@
 // Conditions of users and rooms. A user's place is his id.
-ghost use Rattle.std.specs.Prelude.{ℕ, ◌≡◌, [], ◌∷◌};
+ghost use Rattle.std.specs.Prelude.{◌≡◌, [], ◌∷◌};
 ghost use Rattle.records.specs.House.{view, user};
 ghost use Rattle.records.specs.Places.{only};
 ghost use Rattle.reasons.specs.Reasons.{a_user};

@@ -1,5 +1,5 @@
 // Conditions of sessions, and of what they read and write.
-ghost use Rattle.std.specs.Prelude.{ℕ, ◌≡◌, [], ◌∷◌};
+ghost use Rattle.std.specs.Prelude.{◌≡◌, [], ◌∷◌};
 ghost use Rattle.records.specs.House.{view, script, session, draft_at};
 ghost use Rattle.reasons.specs.Reasons.{a_session};
 ghost use Rattle.reasons.specs.Asking.{asked};

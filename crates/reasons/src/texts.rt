@@ -1,5 +1,5 @@
 // Conditions of scripts and drafts.
-ghost use Rattle.std.specs.Prelude.{ℕ, ◌≡◌, [], ◌∷◌};
+ghost use Rattle.std.specs.Prelude.{◌≡◌, [], ◌∷◌};
 ghost use Rattle.records.specs.House.{view, draft_at};
 ghost use Rattle.records.specs.Places.{only};
 ghost use Rattle.reasons.specs.Reasons.{a_draft};

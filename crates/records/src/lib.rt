@@ -19,6 +19,7 @@ pub use texts::{
 
 // The rooms that exist, the number of live drafts, then the tables: 64 users of 7 cells, 64 scripts of 4, 64 sessions of 6, 256 drafts of 3.
 // An absent slot is all zeros, and the live drafts stand first, by ascending number. A field of one or two bytes is the low bytes of its cell.
+// One array of numbers, and no Vec of elements: C lends it, and there is no heap.
 pub type Cells = [u32; 1858];
 
 const USERS: usize = 2;

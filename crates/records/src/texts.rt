@@ -133,6 +133,7 @@ fn has_number(records: &Cells, i: usize, number: u32) -> bool
 }
 
 // How many drafts at the front surely have another number: four are asked a turn, for speed, and what is left behind the last four not at all.
+// (A `for` would count the turns and multiply by four.)
 fn others(records: &Cells, number: u32) -> usize
     ensures { (result ≤ length (view records.now).drafts) × ((script : ℕ) → find_draft (view records.now) script number ≡ first_from result (draft_is script number) (drop result (view records.now).drafts)) }
 {

@@ -8,6 +8,7 @@ ghost use Rattle.sessions.specs.Sessions.{writing, reading, ends, ended};
 use records::{Cells, Session};
 
 // Which sessions end: the RW sessions of a room; those of them that w owns; or all sessions of w that the label does not cover.
+// An enum, and no closure: who calls a closure has to ask that it may be called, and a public function here asks nothing.
 #[derive(Clone, Copy)]
 pub enum Ending {
     OfRoom { room: u8 },
