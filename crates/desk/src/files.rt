@@ -34,16 +34,16 @@ fn put_name(rt: &HostRuntime, word: usize, text: &mut [u8; NAME]) -> Result<usiz
     }
 }
 
-// How many bytes one read gives; none at the end.
-fn read_some(
+// How many bytes one read of a file or of the input gives; none at its end.
+pub(crate) fn read_some<R: Read>(
     rt: &HostRuntime,
-    file: &mut File,
+    from: &mut R,
     message: &[u8],
     bytes: &mut [u8],
 ) -> Result<usize, Told>
     ensures { Within result bytes.new }
 {
-    file.read(bytes).map_err(|error| failed(rt, message, error))
+    from.read(bytes).map_err(|error| failed(rt, message, error))
 }
 
 // The bytes of a file up to its end, or as many as there is room for.

@@ -14,7 +14,6 @@ ghost use Rattle.records.specs.House.{view};
 ghost use Rattle.image.specs.Image.{image_of};
 ghost use Rattle.history.specs.Lent.{lent, SamePlaces, SameParts};
 ghost use Rattle.opening.specs.Desks.{opens_desk};
-ghost use Rattle.desk.specs.Files.{Within};
 ghost use Rattle.desk.specs.Opened.{file_by, JustOpened};
 ghost use Rattle.desk.specs.Turns.{LedTo};
 
@@ -23,18 +22,8 @@ use history::{Desk, LentDesk};
 use opening::OpenError;
 use records::{Cells, Rule};
 use std::env::{Env, FillError};
-use std::io::Read;
 use std::process::ExitCode;
 use told::{Told, failed, tell};
-
-// How many bytes one read of the input gives; none at its end.
-fn read_piece(rt: &HostRuntime, buf: &mut [u8]) -> Result<usize, Told>
-    ensures { Within result buf.new }
-{
-    rt.stdin()
-        .read(buf)
-        .map_err(|error| failed(rt, b"desk: standard input", error))
-}
 
 // All of the text was written; or that is told.
 fn print_text(rt: &HostRuntime, text: &[u8]) -> Result<(), Told> {
@@ -62,7 +51,12 @@ fn run(
     let mut ordinal = 1;
     let mut have = 0;
     for _turn in 0..1125899906842624u64 {
-        let got = read_piece(rt, &mut buf[have..])?;
+        let got = files::read_some(
+            rt,
+            &mut rt.stdin(),
+            b"desk: standard input",
+            &mut buf[have..],
+        )?;
         let turn = pieces::answer_piece(why, desk, ordinal, buf, have, got, out);
         print_text(rt, &out[..turn.text])?;
         if !turn.onward {
