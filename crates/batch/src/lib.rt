@@ -76,7 +76,7 @@ fn put_answer(out: &mut [u8], answer: Answer) -> usize
 fn room_left(size: usize, place: usize) -> usize
     ensures { result ≡ size - place }
 {
-    if place < size { size - place } else { 0 }
+    size.saturating_sub(place)
 }
 
 // The desk is lent, so that a batch copies no table, and a request's fields are read where they are handed on. The part of `answers` that is lent on starts at the present place.
@@ -115,10 +115,9 @@ pub fn run(desk: &mut LentDesk, requests: &[u8], answers: &mut [u8], place: usiz
 }
 
 // The same for a desk by value, which is lent. Its rule stays.
-pub fn run_desk(desk: Desk, requests: &[u8], answers: &mut [u8], place: usize) -> RanDesk
+pub fn run_desk(mut desk: Desk, requests: &[u8], answers: &mut [u8], place: usize) -> RanDesk
     ensures { Batched desk.rule (shown desk.base desk.log desk.current desk.last) requests.now answers.old place (shown result.desk.base result.desk.log result.desk.current result.desk.last) result.ran answers.new × (result.desk.rule ≡ desk.rule) }
 {
-    let mut desk = desk;
     let mut lent = LentDesk {
         base: &mut desk.base,
         log: &mut desk.log,
