@@ -5,9 +5,9 @@
 
 ghost use Rattle.std.specs.Prelude.{◌<◌, ◌≤◌};
 
+use batch::Stop;
 use history::{Desk, LentDesk};
-use std::io;
-use std::io::{Read, Write};
+use std::io::{self, Read, Write};
 
 // ---- what is written
 fn bytes<W: Write>(out: &mut W, answers: &[u8]) -> io::Result<()> {
@@ -28,7 +28,7 @@ fn answer_room<W: Write>(out: &mut W, answers: &[u8]) -> io::Result<()> {
 // A number that has no room for one more digit stays.
 fn with_digit(n: u64, digit: u8) -> u64 {
     if n < 1_000_000_000_000_000_000 {
-        return n * 10 + (digit % 16) as u64;
+        return n * 10 + u64::from(digit % 16);
     }
     n
 }
@@ -41,7 +41,7 @@ fn low_word(n: u64) -> u32 {
     (n % 4_294_967_296) as u32
 }
 
-// Of a hex digit. The same stands in lines: three lines are no crate.
+// Of a hex digit. The same stands in lines: one small function is no crate.
 fn value(digit: u8) -> u8
     ensures { result < 16 }
 {
@@ -124,11 +124,11 @@ fn cases<W: Write>(out: &mut W, input: &[u8]) -> io::Result<()> {
 }
 
 // ---- every kind
-// The stop of a batch over these bytes, 0 to 13.
-fn stop_of(requests: &[u8]) -> u8 {
+// The stop of a batch over these bytes.
+fn stop_of(requests: &[u8]) -> Stop {
     let mut answers = [0u8; 5];
-    let ran = batch::run_desk(Desk::empty(), requests, &mut answers, 0);
-    batch::stop_number(ran.ran.stop)
+    let left = batch::run_desk(Desk::empty(), requests, &mut answers, 0);
+    left.ran.stop
 }
 
 // Whether the first n bytes of a frame of this kind stop the batch as cut.
@@ -136,7 +136,7 @@ fn is_cut(kind: u8, n: usize) -> bool
     requires { n ≤ 9 }
 {
     let frame = [kind, 0, 0, 0, 0, 0, 0, 0, 0];
-    stop_of(&frame[..n]) == 2
+    stop_of(&frame[..n]) == Stop::Cut
 }
 
 // How many beginnings of a frame of this kind stop the batch as cut.
@@ -145,7 +145,9 @@ fn cuts(kind: u8) -> usize {
 }
 
 fn all_unknown() -> usize {
-    (0..=255u8).filter(|kind| stop_of(&[*kind]) == 1).count()
+    (0..=255u8)
+        .filter(|kind| stop_of(&[*kind]) == Stop::Unknown)
+        .count()
 }
 
 fn all_cuts() -> usize {

@@ -8,8 +8,7 @@ ghost use Rattle.std.specs.Prelude.{◌<◌};
 use judge::Grant;
 use reasons::Reason;
 use records::{Cells, Draft, Rule, Script, Session, User};
-use std::io;
-use std::io::{Read, Write};
+use std::io::{self, Read, Write};
 
 // ---- the houses; a set of places has place p as bit p
 fn user(sort: u8, level: u8, categories: u16, rooms: u32, leads: u32, admin: bool) -> User {
@@ -170,8 +169,7 @@ fn answer(ruling: Result<Grant, Reason>) -> u8 {
             let n = reason.number;
             if n < 63 { 192 + n } else { 255 }
         }
-        Ok(Grant::Pass) => 0x80,
-        Ok(Grant::Keep) => 0x80,
+        Ok(Grant::Pass) | Ok(Grant::Keep) => 0x80,
         Ok(Grant::KeepNumbered) => 0x81,
         Ok(Grant::TakeBack) => 0x20,
     }
@@ -185,16 +183,12 @@ fn rule_by(letter: u8) -> Rule {
     }
 }
 
-fn small(letter: u8) -> u8 {
-    letter.to_ascii_lowercase()
-}
-
 // The first n bytes of a frame judged. What is no request is a mistake of the case: 00.
 fn ruled(letter: u8, frame: &[u8], n: usize) -> u8 {
     if frame.len() < n {
         return 0;
     }
-    let records = house(small(letter));
+    let records = house(letter.to_ascii_lowercase());
     let rule = rule_by(letter);
     match request::read(&frame[..n]) {
         Ok(request) => answer(judge::judge(&records, rule, request)),
@@ -202,7 +196,7 @@ fn ruled(letter: u8, frame: &[u8], n: usize) -> u8 {
     }
 }
 
-// Of a hex digit. The same stands in edges: three lines are no crate.
+// Of a hex digit. The same stands in edges: one small function is no crate.
 fn value(digit: u8) -> u8
     ensures { result < 16 }
 {
