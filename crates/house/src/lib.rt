@@ -100,10 +100,10 @@ pub fn desk_why_parts(
     ensures { (result ≡ (reason_of_bytes (held_rule rule) (view current.now) last (length (past log.now)) request.now).number) × (reason.new ≡ words (reason_of_bytes (held_rule rule) (view current.now) last (length (past log.now)) request.now)) }
 {
     let kept = kept::kept_count(log) as u32;
-    let held = rule_of(rule);
-    let told = why::explain_bytes(current, held, last, kept, request);
-    let number = told.number as u32;
-    *reason = [number, told.kind as u32, told.id, told.held, told.wanted];
+    let told = why::explain_bytes(current, rule_of(rule), last, kept, request);
+    let number = u32::from(told.number);
+    let kind = u32::from(told.kind);
+    *reason = [number, kind, told.id, told.held, told.wanted];
     number
 }
 
@@ -162,8 +162,7 @@ pub fn desk_kept_parts(log: &Log) -> u32
 pub fn desk_rule_parts(rule: u32) -> u32
     ensures { result ≡ rule_number (held_rule rule) }
 {
-    let held = rule_of(rule);
-    rule_number(held)
+    rule_number(rule_of(rule))
 }
 
 // The three of the crate editor, which the library for C (crates/house_c) has as well.
