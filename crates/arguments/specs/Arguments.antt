@@ -1,5 +1,5 @@
 -- What the words behind the program's name ask for: `desk [--last N | --from IMAGE] [--rule R] [--save IMAGE] [--why]`.
-use Rattle.std.specs.Prelude.{ℕ, ◌+◌, Bool, true, false, ◌&&◌, ◌||◌, List, [], ◌∷◌, Option, Some, None, is_some, is_none, unwrap_or, codes, if◌then◌else◌}
+use Rattle.std.specs.Prelude.{ℕ, ◌+◌, Bool, true, false, ◌&&◌, ◌||◌, List, [], ◌∷◌, Option, Some, None, is_some, is_none, unwrap_or, codes, if◌then◌else◌, eqb}
 use Rattle.std.specs.Str.{bytes_eq}
 use Rattle.arguments.specs.Numbers.{number_of}
 use Rattle.arguments.specs.declared.Next.{Next}
@@ -60,13 +60,17 @@ numbered a w last rule =
 abbrev pub filed : Arguments → Option ℕ → Option ℕ → Arguments
 filed a from save = record { usage = a.usage; next = next.Argument; why = a.why; last = a.last; rule = a.rule; from = from; save = save }
 
+-- the words are counted from 1, so that at place 0 there is no name
+abbrev pub place : ℕ → Option ℕ
+place k = if eqb k 0 then None else Some k
+
 -- "The word behind `--last`, `--from`, `--save`, `--rule` is its value, whatever it looks like": a number, or the place k of the word itself
 abbrev pub taken : Next → Arguments → ℕ → List ℕ → Arguments
 taken next.Argument a k w = asks a (named w)
 taken next.Last a k w = numbered a w (number_of w) a.rule
 taken next.Rule a k w = numbered a w a.last (number_of w)
-taken next.From a k w = filed a (Some k) a.save
-taken next.Save a k w = filed a a.from (Some k)
+taken next.From a k w = filed a (place k) a.save
+taken next.Save a k w = filed a a.from (place k)
 
 abbrev pub take_word : Arguments → ℕ → List ℕ → Arguments
 take_word a k w = taken a.next a k w

@@ -4,7 +4,7 @@
 mod numbers;
 
 ghost use Rattle.std.specs.Prelude.{◌≡◌};
-ghost use Rattle.arguments.specs.Arguments.{none, named, asks, take_word, wrong, last_number, rule_number};
+ghost use Rattle.arguments.specs.Arguments.{none, named, asks, place, take_word, wrong, last_number, rule_number};
 
 use numbers::number_of;
 
@@ -19,7 +19,7 @@ pub enum Next {
     Save,
 }
 
-// Whether a word was wrong; and what was asked for. Of a file the place of its name among the words is kept.
+// Whether a word was wrong; and what was asked for. Of a file the place of its name among the words is kept, and none where there is none.
 #[derive(Clone, Copy, Default)]
 pub struct Arguments {
     pub usage: bool,
@@ -53,6 +53,13 @@ fn named(word: &[u8]) -> Option<Word>
         b"--save" => Some(Word::Save),
         _ => None,
     }
+}
+
+// The words are counted from 1, so that at place 0 there is no name.
+fn place(at: usize) -> Option<usize>
+    ensures { result ≡ place at }
+{
+    (at != 0).then_some(at)
 }
 
 impl Arguments {
@@ -126,12 +133,12 @@ impl Arguments {
             }
             Next::From => Arguments {
                 next: Next::Argument,
-                from: Some(at),
+                from: place(at),
                 ..self
             },
             Next::Save => Arguments {
                 next: Next::Argument,
-                save: Some(at),
+                save: place(at),
                 ..self
             },
         }

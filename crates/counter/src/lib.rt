@@ -21,12 +21,21 @@ impl Counter {
     }
 }
 
-// For a caller that holds the number itself: a counter is made of it and lent, and the number comes back.
-pub fn issue_from(last: &mut u32) -> Option<u32>
-    ensures { (result ≡ next_after last.old) × (last.new ≡ last_after last.old) }
+// What a number handed out leaves: the number, or none where the numbers are spent, and the last one then.
+#[derive(Clone, Copy, PartialEq, Eq)]
+pub struct Issued {
+    pub next: Option<u32>,
+    pub last: u32,
+}
+
+// For a caller that holds the number itself: a counter is made of it and lent, and the number comes back. By value, so that a caller needs no reference.
+pub fn issue_from(last: u32) -> Issued
+    ensures { (result.next ≡ next_after last) × (result.last ≡ last_after last) }
 {
-    let mut counter = Counter { last: *last };
+    let mut counter = Counter { last };
     let next = counter.issue();
-    *last = counter.last;
-    next
+    Issued {
+        next,
+        last: counter.last,
+    }
 }

@@ -3,7 +3,7 @@
 // The line written has the name, the stop, the request bytes used, the answer bytes written, the last number then, and every byte of the answer room.
 #![tactic(auto)]
 
-ghost use Rattle.std.specs.Prelude.{◌<◌, ◌≤◌};
+ghost use Rattle.std.specs.Prelude.{◌<◌, ◌≤◌, length};
 
 use batch::Stop;
 use history::{Desk, LentDesk};
@@ -53,16 +53,20 @@ fn value(digit: u8) -> u8
     }
 }
 
-// The bytes that a word shows in hex, as many as there is room for; `_` is no digit.
-fn hex<'a>(word: &[u8], room: &'a mut [u8]) -> &'a [u8] {
+// The bytes that a word shows in hex, as many as there is room for, and 4,096 at most; `_` is no digit.
+fn hex<'a>(word: &[u8], room: &'a mut [u8]) -> &'a [u8]
+    ensures within { length result.now ≤ length room.old }
+    ensures short { length result.now ≤ 4096 }
+{
+    let most = room.len().min(4096);
     let mut digits = word.iter().filter(|digit| **digit != b'_');
-    for n in 0..room.len() {
+    for n in 0..most {
         let (Some(high), Some(low)) = (digits.next(), digits.next()) else {
             return &room[..n];
         };
         room[n] = value(*high) * 16 + value(*low);
     }
-    room
+    &room[..most]
 }
 
 // ---- a case
@@ -140,7 +144,9 @@ fn is_cut(kind: u8, n: usize) -> bool
 }
 
 // How many beginnings of a frame of this kind stop the batch as cut.
-fn cuts(kind: u8) -> usize {
+fn cuts(kind: u8) -> usize
+    ensures { result ≤ 9 }
+{
     (1..10).filter(|n| is_cut(kind, *n)).count()
 }
 

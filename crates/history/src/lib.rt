@@ -135,9 +135,11 @@ impl<'a> LentDesk<'a> {
         ensures parts { SameParts self.old self.new }
         ensures done { (rule : Rule) → outcome (lent self.new) result ≡ issued (desk_rules rule) (lent self.old) (change_of request) (next_after self.old.last.now) }
     {
-        let Some(number) = counter::issue_from(self.last) else {
+        let issued = counter::issue_from(*self.last);
+        let Some(number) = issued.next else {
             return Answer::Refused(11);
         };
+        *self.last = issued.last;
         self.make(request, number);
         Answer::Numbered(number)
     }

@@ -220,6 +220,13 @@ fn hex(word: &[u8], room: &mut [u8]) -> usize {
     digits / 2
 }
 
+// Two digits put together first, so that they and what stands beside them are one write.
+fn pair(byte: u8) -> io::Result<[u8; 2]> {
+    let mut digits = [0u8; 2];
+    write!(&mut &mut digits[..], "{byte:02X}")?;
+    Ok(digits)
+}
+
 // A line that the end of the input cuts short has no ruling.
 fn case<W: Write>(out: &mut W, line: &[u8]) -> io::Result<()> {
     let ended = line.strip_suffix(b"\n");
@@ -228,14 +235,16 @@ fn case<W: Write>(out: &mut W, line: &[u8]) -> io::Result<()> {
     let mut frame = [0u8; 16];
     let n = hex(fields.next().unwrap_or_default(), &mut frame);
     for word in fields {
-        write!(out, "{:02X} ", frame[0])?;
+        let [high, low] = pair(frame[0])?;
+        out.write_all(&[high, low, b' '])?;
         out.write_all(word)?;
     }
     if ended.is_none() {
         return Ok(());
     }
     let letter = house.last().copied().unwrap_or_default();
-    writeln!(out, " {:02X}", ruled(letter, &frame, n))
+    let [high, low] = pair(ruled(letter, &frame, n))?;
+    out.write_all(&[b' ', high, low, b'\n'])
 }
 
 // ---- the input

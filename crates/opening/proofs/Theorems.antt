@@ -17,7 +17,7 @@ use Rattle.rules.proofs.Bools.{left, right, clash}
 use Rattle.image.specs.Image.{is_two, image_of}
 use Rattle.reader.specs.Reading.{Saved, blank, Walk, Taken, walked, stop_of}
 use Rattle.reader.proofs.Walking.{walk_stops}
-use Rattle.opening.specs.Opening.{of_frame, keeps, image, IsImage, Opens, refused, accepted, same_bytes, by_walk, opened_by}
+use Rattle.opening.specs.Opening.{error_number, of_frame, keeps, image, IsImage, Opens, refused, accepted, same_bytes, by_walk, opened_by}
 use Rattle.opening.specs.declared.OpenError.{OpenError}
 use Rattle.opening.specs.declared.OpenError.TheVariants.{Cut, NoImage}
 use Rattle.opening.proofs.Bounds.{image_bytes}
@@ -125,9 +125,9 @@ pub records_determine : (s t : Saved) → s ≡ t → image s ≡ image t
 records_determine s t e = ap image e
 
 -- ---- the refusals, for every string of bytes. "14 .. an image that is empty or ends inside a body"
-pub no_bytes_14 : opened_by [] ≡ refused Cut
+pub no_bytes_14 : (opened_by [] ≡ refused Cut) × (error_number Cut ≡ 14)
 unfolding opened_by
-no_bytes_14 = refl
+no_bytes_14 = (refl, refl)
 
 -- by where the walk stops
 by_stop : (b : List ℕ) → (length b ≡ 0 → ⊥) → (w : Walk) → stop_of 0 b ≡ w → opened_by b ≡ by_walk (walked 0 blank b) b w
@@ -142,19 +142,19 @@ unfolding stop_of
 some_bytes [] n e = n refl
 some_bytes (x ∷ xs) n e = omega arith
 
-pub cut_14 : (b : List ℕ) → stop_of 0 b ≡ Err FrameError.Cut → opened_by b ≡ refused Cut
-cut_14 b e = by_stop b (some_bytes b (λ w. differ (cc))) (Err FrameError.Cut) e
+pub cut_14 : (b : List ℕ) → stop_of 0 b ≡ Err FrameError.Cut → (opened_by b ≡ refused Cut) × (error_number Cut ≡ 14)
+cut_14 b e = (by_stop b (some_bytes b (λ w. differ (cc))) (Err FrameError.Cut) e, refl)
 
 -- "an unknown kind met there is 15"
-pub unknown_15 : (b : List ℕ) → stop_of 0 b ≡ Err FrameError.Unknown → opened_by b ≡ refused NoImage
-unknown_15 b e = by_stop b (some_bytes b (λ w. differ (cc))) (Err FrameError.Unknown) e
+pub unknown_15 : (b : List ℕ) → stop_of 0 b ≡ Err FrameError.Unknown → (opened_by b ≡ refused NoImage) × (error_number NoImage ≡ 15)
+unknown_15 b e = (by_stop b (some_bytes b (λ w. differ (cc))) (Err FrameError.Unknown) e, refl)
 
 -- "15 not an image": whole frames, some of them, that are no image
-pub whole_15 : (b : List ℕ) → (length b ≡ 0 → ⊥) → stop_of 0 b ≡ Ok tt → (IsImage b → ⊥) → opened_by b ≡ refused NoImage
+pub whole_15 : (b : List ℕ) → (length b ≡ 0 → ⊥) → stop_of 0 b ≡ Ok tt → (IsImage b → ⊥) → (opened_by b ≡ refused NoImage) × (error_number NoImage ≡ 15)
 whole_15 b some e never =
     let t = walked 0 blank b in
     let all = by_stop b some (Ok tt) e in
-    all ∙ go (keeps t.got && same_bytes (image t.got) b) (λ o. never (accepts_only_images b (ap (λ (p : Opens). p.answer) all ∙ o)))
+    (all ∙ go (keeps t.got && same_bytes (image t.got) b) (λ o. never (accepts_only_images b (ap (λ (p : Opens). p.answer) all ∙ o))), refl)
   where
     go : (e : Bool) → ((cond e (accepted (walked 0 blank b).got) (refused NoImage)).answer ≡ Ok tt → ⊥)
         → cond e (accepted (walked 0 blank b).got) (refused NoImage) ≡ refused NoImage
@@ -162,8 +162,9 @@ whole_15 b some e never =
     go false n = refl
 
 -- ---- and no other bytes: 14 only where there are none or a body is cut, 15 only where a kind is unknown or the frames are no image
-pub only_14 : (b : List ℕ) → opened_by b ≡ refused Cut → (length b ≡ 0) ⊎ (stop_of 0 b ≡ Err FrameError.Cut)
-only_14 b e = go (ℕ_discrete (length b) 0) (stop_of 0 b) refl
+pub only_14 : (b : List ℕ) (why : OpenError) → error_number why ≡ 14 → opened_by b ≡ refused why → (length b ≡ 0) ⊎ (stop_of 0 b ≡ Err FrameError.Cut)
+only_14 b NoImage n e = absurd (omega arith)
+only_14 b Cut n e = go (ℕ_discrete (length b) 0) (stop_of 0 b) refl
   where
     other : {A : Type 0} → refused NoImage ≡ refused Cut → A
     other z = let y = ap (λ (o : Opens). o.answer) z in differ (cc)
@@ -177,11 +178,12 @@ only_14 b e = go (ℕ_discrete (length b) 0) (stop_of 0 b) refl
     go : Dec (length b ≡ 0) → (w : Walk) → stop_of 0 b ≡ w → (length b ≡ 0) ⊎ (stop_of 0 b ≡ Err FrameError.Cut)
     go (yes z) w k = inl z
     go (no n) (Err FrameError.Cut) k = inr k
-    go (no n) (Err FrameError.Unknown) k = other (sym (unknown_15 b k) ∙ e)
+    go (no n) (Err FrameError.Unknown) k = other (sym (unknown_15 b k).0 ∙ e)
     go (no n) (Ok _) k = open_or_15 (keeps (walked 0 blank b).got && same_bytes (image (walked 0 blank b).got) b) (sym (by_stop b n (Ok tt) k) ∙ e)
 
-pub only_15 : (b : List ℕ) → opened_by b ≡ refused NoImage → (stop_of 0 b ≡ Err FrameError.Unknown) ⊎ ((stop_of 0 b ≡ Ok tt) × (IsImage b → ⊥))
-only_15 b e = go (stop_of 0 b) refl
+pub only_15 : (b : List ℕ) (why : OpenError) → error_number why ≡ 15 → opened_by b ≡ refused why → (stop_of 0 b ≡ Err FrameError.Unknown) ⊎ ((stop_of 0 b ≡ Ok tt) × (IsImage b → ⊥))
+only_15 b Cut n e = absurd (omega arith)
+only_15 b NoImage n e = go (stop_of 0 b) refl
   where
     no_image : IsImage b → ⊥
     no_image i = let z : Err NoImage ≡ Ok tt = sym (ap (λ (o : Opens). o.answer) e) ∙ accepts_images b i in differ (cc)
@@ -189,4 +191,4 @@ only_15 b e = go (stop_of 0 b) refl
     go : (w : Walk) → stop_of 0 b ≡ w → (stop_of 0 b ≡ Err FrameError.Unknown) ⊎ ((stop_of 0 b ≡ Ok tt) × (IsImage b → ⊥))
     go (Err FrameError.Unknown) k = inl k
     go (Ok _) k = inr (k, no_image)
-    go (Err FrameError.Cut) k = let z = ap (λ (o : Opens). o.answer) (sym (cut_14 b k) ∙ e) in differ (cc)
+    go (Err FrameError.Cut) k = let z = ap (λ (o : Opens). o.answer) (sym (cut_14 b k).0 ∙ e) in differ (cc)

@@ -42,8 +42,16 @@ impl From<FrameError> for OpenError {
     }
 }
 
+// A function of its own, so that a wrong comparison fails for what it answers.
+#[tactic(auto, using(crate::proofs::Alike::same_is_equal))]
+fn same(a: &[u8], b: &[u8]) -> bool
+    ensures { result ≡ same_bytes a.now b.now }
+{
+    a == b
+}
+
 // Whether these bytes are the image of the records, the last number and the rule: it is written again and compared. Any image fits.
-#[tactic(auto, using(image::proofs::Ways::never_refused))]
+#[tactic(auto, using(image::proofs::Ways::never_refused, crate::proofs::Alike::saved_compared))]
 fn is_image(records: &Cells, last: u32, rule: Rule, bytes: &[u8]) -> bool
     ensures { result ≡ same_bytes (image_of (view records.now) last rule) bytes.now }
 {
@@ -51,7 +59,7 @@ fn is_image(records: &Cells, last: u32, rule: Rule, bytes: &[u8]) -> bool
     let Ok(n) = image::save(records, last, rule, &mut again) else {
         return false;
     };
-    &again[..n] == bytes
+    same(&again[..n], bytes)
 }
 
 // The records, the last number and the rule that the image holds; where it is refused, what the reader took in.

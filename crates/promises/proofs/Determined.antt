@@ -14,6 +14,7 @@ use Rattle.opening.specs.Opening.{Opening, Opens, opens, opened_by}
 use Rattle.opening.specs.Desks.{OpensDesk, opens_desk, desk_by}
 use Rattle.counter.specs.Numbers.{next_after, last_after}
 use Rattle.counter.specs.declared.Counter.{Counter}
+use Rattle.counter.specs.declared.Issued.{Issued}
 use Rattle.kept.specs.Log.{past}
 use Rattle.reasons.specs.declared.Reason.{Reason}
 use Rattle.judge.specs.declared.Grant.{Grant}
@@ -52,9 +53,9 @@ pub one_issue : (entry c d : Counter) (r s : Option ℕ)
 one_issue entry c d r s p q = (determined p.0 q.0, (λ i. record { last = determined p.1 q.1 i }))
 
 -- two results of counter::issue_from: one_issued
-pub one_issued : (last m n : ℕ) (r s : Option ℕ)
-    → (r ≡ next_after last) × (m ≡ last_after last) → (s ≡ next_after last) × (n ≡ last_after last) → (r ≡ s) × (m ≡ n)
-one_issued last m n r s p q = (determined p.0 q.0, determined p.1 q.1)
+pub one_issued : (last : ℕ) (r s : Issued)
+    → (r.next ≡ next_after last) × (r.last ≡ last_after last) → (s.next ≡ next_after last) × (s.last ≡ last_after last) → r ≡ s
+one_issued last r s p q = λ i. record { next = determined p.0 q.0 i; last = determined p.1 q.1 i }
 
 -- s₁ and s₂ are what the records show, with the last number and the rule
 -- two results of reader::take_all: one_walk

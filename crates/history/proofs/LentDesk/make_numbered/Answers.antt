@@ -12,6 +12,6 @@ unfolding keep_change
 returns-clause-done c =
     let d = c.args.self.now in
     let n = c.in-Some.number in
-    let handed : next_after d.last.now ≡ Some n = sym c.issue_from.ensures.0 ∙ c.in-Some.is in
-    let last = c.issue_from.ensures.1 ∙ number_is_last d.last.now n handed in
+    let handed : next_after d.last.now ≡ Some n = sym c.issue_from-issued.ensures.0 ∙ c.in-Some.is in
+    let last = c.issue_from-issued.ensures.1 ∙ number_is_last d.last.now n handed in
     λ rule. rw handed (ap (λ x. outcome x (Numbered n)) (rw last at (c.make.ensures.done rule)))
